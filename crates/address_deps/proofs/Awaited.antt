@@ -28,13 +28,13 @@ use Rattle.address_deps.specs.Giving.{gives_by, gives_from, may_take, node_gives
 use Rattle.address_deps.specs.Sets.{AreServers}
 use Rattle.address_deps.proofs.GivingNodes.{learns_path, path_learns}
 
--- two sets of servers that are one but for this name, which isn't among those that are waited for
+-- two sets of servers are equal but for one name, which isn't among those that are awaited
 pub record AreAlike (awaited one other : List Labels) : Type 0 where
   pub name : Labels
   pub apart : (server : Labels) → name_eq name server ≡ false → is_among one server ≡ is_among other server
   pub not_awaited : Contains awaited name → ⊥
 
--- the other way round
+-- if one set of servers is like another but for names that aren't awaited, the other is like the one
 pub alike_back : (awaited one other : List Labels) → AreAlike awaited one other → AreAlike awaited other one
 alike_back awaited one other alike =
     record { name = alike.name; apart = λ server differs. sym (alike.apart server differs); not_awaited = alike.not_awaited }
@@ -91,11 +91,13 @@ module _ (rewrites : ℕ) (config : Config) (query : Labels) (graph : PlainGraph
         path_learns config rewrites other of_other query graph rtype is
         (record { at = path.at; numbers = path.numbers; starts = path.starts; gives = sym (same_path rtype path.numbers path.at) ∙ path.gives })
 
-    -- and the same is learnt
+    -- if two sets of servers differ in a name that isn't awaited alone, an address that is learnt with the one is
+    -- learnt with the other
     pub same_learnt : Learns (following config rewrites one) query → Learns (following config rewrites other) query
     same_learnt learns = elim learns [ inl four ↦ inl (same_learnt_by types.A four) | inr six ↦ inr (same_learnt_by types.Aaaa six) ]
 
--- so it is of a server's name, by what is told of it, where the server doesn't wait for this one
+-- if two sets of servers differ in a name that isn't awaited alone, the address of a server of which something is told
+-- is learnt with both or with neither
 pub same_told : (rewrites : ℕ) (config : Config) (name : Labels) (told : AddressTold) → IsToldOf config rewrites name told → (one other : List Labels)
     → AreAlike (told_awaits config told) one other → AreServers config one → AreServers config other
     → Learns (following config rewrites one) name → Learns (following config rewrites other) name

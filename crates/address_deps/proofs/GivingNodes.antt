@@ -42,7 +42,7 @@ module _ (config : Config) (followed : List Labels) (graph : PlainGraph) (rtype 
   abbrev from_node : List ℕ → ℕ → Bool
   from_node numbers at = gives_from config followed graph rtype numbers at
 
-  -- a node with a branch that gives an address has such a path
+  -- from a node with a branch that gives an address, by marks that are right, a path gives one
   pub giving_node : (marks : List Bool) (at : ℕ) (node : Node) → AreGiving config followed graph rtype marks → slice_get graph.nodes at ≡ Some node
       → list_any (branch_gives config followed marks) (branches_of node rtype) ≡ true → (numbers : List ℕ) × (from_node numbers at ≡ true)
   giving_node marks at node giving here some =
@@ -65,7 +65,7 @@ module _ (config : Config) (followed : List Labels) (graph : PlainGraph) (rtype 
         ap (by_node (from_node []) number true) here ∙ ap (by_branch (from_node []) true) there ∙ gives,
       )
 
-  -- and where no branch of an unmarked node gives one, no path from it does
+  -- no path from an unmarked node gives an address, if the marks are complete
   pub barren : (marks : List Bool) → AreComplete config followed graph rtype marks → (numbers : List ℕ) (at : ℕ) → is_marked marks at ≡ false → from_node numbers at ≡ false
   barren marks complete [] at clear = refl
   barren marks complete (number ∷ numbers) at clear = by (slice_get graph.nodes at) refl (barren marks complete numbers) where
@@ -222,21 +222,21 @@ module _ (config : Config) (rewrites : ℕ) (followed : List Labels)
         ∙ (ap (λ (s : State). walk_gives (few numbers s)) pair.paired.2
         ∙ sym (ap (λ (s : Option State). walk_gives (option_and_then (few numbers) s)) pair.at_other)))
 
-  -- so an address is learnt exactly where a path from a start gives one
+  -- a path from a start of the graph that gives an address
   pub record GivingPath : Type 0 where
     pub at : ℕ
     pub numbers : List ℕ
     pub starts : Contains graph.starts at
     pub gives : from_here numbers at ≡ true
 
-  -- where a path from a start gives an address, an address of the name is learnt
+  -- if a path from a start gives an address, an address of the name is learnt
   pub path_learns : GivingPath → LearnsBy (following config rewrites followed) query rtype
   path_learns path =
       let place = place_of_item graph.starts path.at path.starts in
       from_giving (following config rewrites followed) query rtype (place.0 ∷ path.numbers)
       (sym (same_along (place.0 ∷ path.numbers)) ∙ (ap (λ (at : Option ℕ). option_map_or (from_here path.numbers) at false) place.1 ∙ path.gives))
 
-  -- where an address of the name is learnt, a path from a start gives one
+  -- if an address of the name is learnt, a path from a start gives one
   pub learns_path : LearnsBy (following config rewrites followed) query rtype → GivingPath
   learns_path learns = by learns.is_walk.0 (same_along learns.is_walk.0 ∙ (ap walk_gives learns.is_walk.1 ∙ learns.ends)) where
     by : (numbers : List ℕ) → path_gives numbers ≡ true → GivingPath

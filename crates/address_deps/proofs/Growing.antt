@@ -183,7 +183,7 @@ module _ (config : Config) (told : List AddressTold) where
 -- ---- each server
 
 module _ (config : Config) (told : List AddressTold) (names : List Labels) where
-  -- where it is so of each server, it is so of all
+  -- if at each place no server more can be learnt, none more can be learnt at all
   pub none_more_in_all : ((place : ℕ) → place < length config.servers → NoneMoreLearntAt config told names place) → NoneMoreLearnt config told names
   none_more_in_all each = λ rewrites are name among learns.
       let found = from_map (λ (s : Server). s.name) config.servers name among in
@@ -201,7 +201,7 @@ module _ (config : Config) (told : List AddressTold) (names : List Labels) where
       (each place.0 (slice_get_within config.servers place.0 found.0 place.1) rewrites found.0 are place.1
       (subst (λ (n : Labels). is_among names n ≡ true) (sym found.2) has))
 
--- a name behind others
+-- whether a list with one name more has a name is whether the name is that one or was in it before
 pub put_last : (xs : List Labels) (y name : Labels) (before : Bool) → before ≡ is_among xs name → (name_eq y name || before) ≡ is_among (xs ++ y ∷ []) name
 put_last xs y name before is =
     ap (λ (b : Bool). b || before) ((lists_equiv nat_list_eq_equiv).symm y name)

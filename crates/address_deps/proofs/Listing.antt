@@ -29,7 +29,7 @@ Places = tree.BTreeMap Labels (List ℕ)
 pub none_in_empty : (places : Places) → tree.IsEmpty places → (name : Labels) → places_of places name ≡ []
 none_in_empty places empty name = ap (λ (entries : List (Labels × List ℕ)). unwrap_or (lookup (λ (key : Labels). is_eq (name_cmp name key)) entries) []) empty
 
--- the places of a name in a map where a name has these
+-- the places of a name in the map after a name was given these places
 pub placed : (name other : Labels) (listed : List ℕ) (old new : Places) → tree.get name_cmp new other ≡ cond (is_eq (name_cmp name other)) (Some listed) (tree.get name_cmp old other)
     → places_of new other ≡ cond (name_eq name other) listed (places_of old other)
 placed name other listed old new is =
@@ -39,14 +39,14 @@ placed name other listed old new is =
     by true e = sym (ap (λ (c : Bool). cond c listed (places_of old other)) e)
     by false e = sym (ap (λ (c : Bool). cond c listed (places_of old other)) e)
 
--- and where it was taken out
+-- the places of other names stay when a name is taken out of the map
 pub taken : (name other : Labels) (old new : Places) → tree.get name_cmp new other ≡ cond (is_eq (name_cmp name other)) None (tree.get name_cmp old other)
     → name_eq name other ≡ false → places_of new other ≡ places_of old other
 taken name other old new is differs =
     ap (λ (o : Option (List ℕ)). unwrap_or o []) (is ∙ ap (λ (c : Bool). cond c None (tree.get name_cmp old other)) (sym (lists_ties label_cmp texts_ties name other) ∙ differs))
 
 module _ (place : ℕ) where
-  -- listed for one name more
+  -- a place is listed for one name more once it is put among the name's places
   pub listed_one : (name : Labels) (before after : List ℕ) (old mid new : Places) → before ≡ places_of old name
       → ((other : Labels) → name_eq name other ≡ false → places_of mid other ≡ places_of old other)
       → ((other : Labels) → places_of new other ≡ cond (name_eq name other) after (places_of mid other))
@@ -88,7 +88,7 @@ module _ (place : ℕ) where
   pub listed_none : (places : Places) → IsListedFor place [] places places
   listed_none places = record { listed = λ name has. absurd (none_in_nil name has); stays = λ name k has. has; only = λ name k has. inl has }
 
-  -- listed for some names, and then for one more
+  -- a place that is listed for some names and then for one more is listed for all of them
   pub listed_more : (names : List Labels) (name : Labels) (old mid new : Places) → IsListedFor place names old mid → IsListedFor place (name ∷ []) mid new
       → IsListedFor place (names ++ name ∷ []) old new
   listed_more names name old mid new some one =
@@ -130,7 +130,7 @@ module _ (config : Config) (told : List AddressTold) where
         ];
       }
 
--- the places below a bound, and the next
+-- all places below a bound, and the next one, are all places below the next bound
 pub one_place_more : (bound : ℕ) (places : List ℕ) → AreAllPlaces bound places → AreAllPlaces (bound + 1) (places ++ bound ∷ [])
 one_place_more bound places all =
     λ place. (

@@ -16,7 +16,7 @@ set_other (mark ∷ marks) zero (suc other) apart = refl
 set_other (mark ∷ marks) (suc at) zero apart = refl
 set_other (mark ∷ marks) (suc at) (suc other) apart = set_other marks at other (λ e. apart (ap suc e))
 
--- a marked node from which a path gives an address
+-- marks stay right with one more set at a node from which a path gives an address
 pub giving_more : (config : Config) (followed : List Labels) (graph : PlainGraph) (rtype : RrType) (marks : List Bool) (at : ℕ)
     → AreGiving config followed graph rtype marks → (numbers : List ℕ) × (gives_from config followed graph rtype numbers at ≡ true)
     → AreGiving config followed graph rtype (set marks at true)
@@ -27,7 +27,7 @@ giving_more config followed graph rtype marks at giving path =
       | inr apart ↦ giving other (sym (set_other marks at other apart) ∙ marked)
     ]
 
--- none is set among marks that are all clear
+-- among clear marks each marked node gives an address, for none is marked
 pub none_giving : (config : Config) (followed : List Labels) (graph : PlainGraph) (rtype : RrType) (marks : List Bool)
     → ((at : ℕ) → is_marked marks at ≡ false) → AreGiving config followed graph rtype marks
 none_giving config followed graph rtype marks clear = λ at marked. let no : false ≡ true = sym (clear at) ∙ marked in cc

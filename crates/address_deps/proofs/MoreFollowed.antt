@@ -27,7 +27,7 @@ use Rattle.net_model.specs.Step.{Setting, following, Branch, Go, End, has_glue, 
 use Rattle.net_model.specs.Walk.{branched, led_on, walk_from, walk_along}
 use Rattle.net_model.proofs.LearntSets.{walk_gives}
 
--- an address is learnt by such a walk
+-- an address is learnt if a walk of the name gives one
 pub from_giving : (setting : Setting) (name : Labels) (rtype : RrType) (numbers : List ℕ) → walk_gives (walk_along setting name rtype numbers) ≡ true
     → LearnsBy setting name rtype
 from_giving setting name rtype numbers h = by (walk_along setting name rtype numbers) refl h where
@@ -214,7 +214,7 @@ module _ (config : Config) (rewrites : ℕ) (few more : List Labels)
     by None h = cc
     by (Some state) h = stays_giving rtype numbers state h
 
-  -- so what is learnt while few are followed is learnt while more are
+  -- what is learnt while few servers are followed is learnt while more are
   pub learns_more : (name : Labels) → Learns (following config rewrites few) name → Learns (following config rewrites more) name
   learns_more name learns = elim learns [ inl four ↦ inl (by types.A four) | inr six ↦ inr (by types.Aaaa six) ] where
     by : (rtype : RrType) → LearnsBy (following config rewrites few) name rtype → LearnsBy (following config rewrites more) name rtype

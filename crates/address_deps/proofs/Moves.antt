@@ -41,11 +41,11 @@ module _ (config : Config) (told : List AddressTold) (names : List Labels) (plac
   same : (other : Server) → slice_get config.servers place ≡ Some other → server ≡ other
   same other there = same_item (slice_get config.servers place) server other here there
 
-  -- whether the server can be learnt while these are followed
+  -- the answer is whether the server can be learnt while these servers are followed
   abbrev pub TellsLearnt : Bool → Type 0
   TellsLearnt learnt = (rewrites : ℕ) → AreTold config rewrites told → (learnt ≡ true) ↔ Learns (following config rewrites names) server.name
 
-  -- by what is told of its name
+  -- what is told of the name of the server at the place answers whether the server can be learnt
   pub by_told : (one : AddressTold) (learnt : Bool) → slice_get told place ≡ Some one → AreServers config names
       → ((rewrites : ℕ) (name : Labels) → AreServers config names → IsToldOf config rewrites name one
       → (learnt ≡ true) ↔ Learns (following config rewrites names) name)
@@ -57,13 +57,13 @@ module _ (config : Config) (told : List AddressTold) (names : List Labels) (plac
 
   -- ---- it isn't added or dropped
 
-  -- it is there, or isn't there to be dropped
+  -- a server that is there when servers are added, or isn't there when they are dropped, is settled
   pub kept_settled : (direction : Direction) → is_among names server.name ≡ adds direction → IsSettledAt direction config told names place
   kept_settled Adding has = λ rewrites other are there learns. subst (λ (s : Server). is_among names s.name ≡ true) (same other there) has
   kept_settled Dropping lacks = λ rewrites other are there has.
       absurd (true≢false (sym has ∙ subst (λ (s : Server). is_among names s.name ≡ false) (same other there) lacks))
 
-  -- it can't be learnt, or can where it would be dropped
+  -- a server that can't be learnt when servers are added, or can when they are dropped, is settled
   pub told_settled : (direction : Direction) (learnt : Bool) → TellsLearnt learnt → learnt ≡ not (adds direction) → IsSettledAt direction config told names place
   told_settled Adding learnt tells is = λ rewrites other are there learns.
       absurd (true≢false (sym ((tells rewrites are).1 (subst (λ (s : Server). Learns (following config rewrites names) s.name) (sym (same other there)) learns)) ∙ is))
@@ -78,13 +78,13 @@ module _ (config : Config) (told : List AddressTold) (names : List Labels) (plac
       (subst (Contains config.servers) (get_or_from_slice_get config.servers place server server here)
       (Contains-get_or config.servers place server (slice_get_within config.servers place server here)))
 
-  -- fewer are left
+  -- when a server moves, fewer servers are left that haven't
   pub fewer_unmoved : (direction : Direction) (new : List Labels) → is_among names server.name ≡ not (adds direction) → IsMoved direction server.name names new
       → unmoved direction config.servers new < unmoved direction config.servers names
   fewer_unmoved Adding new lacks moved = grown_less config told names new server.name among lacks moved
   fewer_unmoved Dropping new has moved = shrunk_less config told names new server.name among has moved
 
-  -- and it was time
+  -- the search stays fair when a server is added that can be learnt, or dropped that can't
   pub still_fair : (direction : Direction) (new : List Labels) (learnt : Bool) → is_among names server.name ≡ not (adds direction) → IsMoved direction server.name names new
       → TellsLearnt learnt → learnt ≡ adds direction → IsFair direction config told names → IsFair direction config told new
   still_fair Adding new learnt lacks moved tells is fair =
@@ -97,7 +97,7 @@ moved_there : (direction : Direction) (name : Labels) (old new : List Labels) �
 moved_there Adding name old new moved = put_there name old new moved
 moved_there Dropping name old new moved = gone_there name old new moved
 
--- so it is settled
+-- a server that was added or dropped is settled
 pub moved_settled : (direction : Direction) (config : Config) (told : List AddressTold) (place : ℕ) (server : Server) (old new : List Labels)
     → slice_get config.servers place ≡ Some server → IsMoved direction server.name old new → IsSettledAt direction config told new place
 moved_settled direction config told place server old new here moved =
@@ -105,7 +105,7 @@ moved_settled direction config told place server old new here moved =
 
 module _ (config : Config) (told : List AddressTold) (places : map.BTreeMap Labels (List ℕ)) (dependents : AreDependents config told (length told) places)
     (old new : List Labels) (of_old : AreServers config old) (of_new : AreServers config new) (name : Labels) where
-  -- and those that were before and don't wait for it
+  -- servers that were settled before a server moved still are, unless they wait for it
   pub still_settled : (direction : Direction) → IsMoved direction name old new → (place : ℕ) → place < length told
       → IsSettledAt direction config told old place → Contains (places_of places name) place ⊎ IsSettledAt direction config told new place
   still_settled Adding moved = still_none_more config told places dependents old new of_old of_new name (put_apart name old new moved) (put_more name old new moved)

@@ -20,7 +20,7 @@ there_or_not numbers number = by (list_any (λ n. n == number) numbers) refl whe
       inl (subst (Contains numbers) (eqb-true found.0 number found.2) found.1)
   by false e = inr (λ has. let no : false ≡ true = sym e ∙ any_has (λ n. n == number) numbers number has (eq-eqb number number refl) in cc)
 
--- of a round that follows: fewer are left, or none waits
+-- what is left to do falls from round to round: fewer servers are left, or none waits
 pub falls : (waiting next : List ℕ) (before after : ℕ) → (length waiting == 0) ≡ false → ((length next == 0) ≡ false → after < before) → after ≤ before
     → after + after + unset (length next == 0) < before + before + unset (length waiting == 0)
 falls waiting next before after some fewer no_more =
@@ -32,7 +32,7 @@ falls waiting next before after some fewer no_more =
     by false e was = let less = fewer e in omega (arith, less, was)
 
 module _ (Good : List Labels → Type 0) (At : List Labels → ℕ → Type 0) (count : List Labels → ℕ) (told : List AddressTold) (waiting : List ℕ) (first : List Labels) where
-  -- the places before this one were looked at
+  -- where a round stands in which the places before this one were looked at
   pub record IsRoundAt (at : ℕ) (names : List Labels) (next : List ℕ) : Type 0 where
     pub good : Good names
     pub others : (place : ℕ) → place < length told → Contains (drop at waiting) place ⊎ (Contains next place ⊎ At names place)
@@ -69,7 +69,7 @@ module _ (Good : List Labels → Type 0) (At : List Labels → ℕ → Type 0) (
         first_or_later item (drop (at + 1) waiting) place
         (subst (λ (xs : List ℕ). Contains xs place) (drop_more waiting at 0 here ∙ ap (λ (n : ℕ). n ∷ drop (at + 1) waiting) (sym is)) has)
 
-    -- the one at the place changes nothing
+    -- a place at which the server doesn't change the set is looked at in the round
     pub round_same : At names item → IsRoundAt (at + 1) names next
     round_same told =
         record {
@@ -86,7 +86,7 @@ module _ (Good : List Labels → Type 0) (At : List Labels → ℕ → Type 0) (
           no_more = on.no_more;
         }
 
-    -- it changes the set, and others wait for it
+    -- a place at which the server changes the set is looked at in the round, and the places that depend on it wait
     pub round_changed : (new : List Labels) (listed : List ℕ) → Good new → count new < count names → At new item
         → ((place : ℕ) → place < length told → At names place → Contains listed place ⊎ At new place) → AreWithin told listed
         → IsRoundAt (at + 1) new (next ++ listed)

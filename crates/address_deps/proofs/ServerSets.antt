@@ -13,7 +13,7 @@ in_set name (key ∷ keys) =
     ∙ ap (λ (b : Bool). name_eq name key || b) (in_set name keys)
 
 module _ (name other : Labels) (old : List Labels) where
-  -- with a name put in it
+  -- whether a set with a name put in has a name is whether it is that one or was in it before
   pub put_in : (new : List Labels) → list_any (λ key. is_eq (name_cmp other key)) new ≡ cond (is_eq (name_cmp name other)) true (list_any (λ key. is_eq (name_cmp other key)) old)
       → list_any (name_eq other) new ≡ (name_eq name other || list_any (name_eq other) old)
   put_in new is =
@@ -25,7 +25,7 @@ module _ (name other : Labels) (old : List Labels) where
       by true e = sym (ap (λ (b : Bool). b || list_any (name_eq other) old) e)
       by false e = sym (ap (λ (b : Bool). b || list_any (name_eq other) old) e)
 
-  -- or taken out of it
+  -- whether a set with a name taken out has a name is whether it isn't that one and was in it before
   pub taken_out : (new : List Labels) → list_any (λ key. is_eq (name_cmp other key)) new ≡ cond (is_eq (name_cmp name other)) false (list_any (λ key. is_eq (name_cmp other key)) old)
       → list_any (name_eq other) new ≡ (not (name_eq name other) && list_any (name_eq other) old)
   taken_out new is =

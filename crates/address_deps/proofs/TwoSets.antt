@@ -27,6 +27,7 @@ module _ (config : Config) (rewrites : ℕ) where
   abbrev names : List Labels
   names = server_names config
 
+  -- the address of the name can be learnt while the followed servers are these
   abbrev pub learns_in : List Labels → Labels → Type 0
   learns_in followed name = Learns (following config rewrites followed) name
 
@@ -65,7 +66,8 @@ module _ (config : Config) (rewrites : ℕ) where
   pub none_below : AreBelow config rewrites zero []
   none_below = λ learnt is name has. absurd (none_in_nil name has)
 
-  -- with one server more that can be learnt they are after one round more
+  -- if the names are learnt after some rounds begun with none, they are after one round more with one server more that
+  -- can be learnt
   pub one_below : (rounds : ℕ) (followed more : List Labels) (server : Labels) → AreBelow config rewrites rounds followed → Contains names server → learns_in followed server
       → ((name : Labels) → Contains more name → Contains followed name ⊎ (server ≡ name)) → AreBelow config rewrites (suc rounds) more
   one_below rounds followed more server below among learns from =
@@ -84,7 +86,7 @@ module _ (config : Config) (rewrites : ℕ) where
         | inr equal ↦ subst (λ (n : ℕ). AreBelow config rewrites n followed) (let e : rounds ≡ suc total = omega arith in e) below
       ]
 
-  -- where no server more can be learnt, it is the least set
+  -- if no server more can be learnt, the names are the least set
   pub is_least : (rounds : ℕ) (followed : List Labels) (test : Labels → Bool) → rounds ≤ length config.servers → AreBelow config rewrites rounds followed
       → ((name : Labels) → Contains names name → (test name ≡ true) ↔ Contains followed name)
       → ((name : Labels) → Contains names name → learns_in followed name → Contains followed name)
@@ -131,7 +133,7 @@ module _ (config : Config) (rewrites : ℕ) where
   pub all_above : (followed : List Labels) → Within names followed → AreAbove config rewrites zero followed
   all_above followed within = λ learnt is name has. within name (subst (λ (xs : List Labels). Contains xs name) is has)
 
-  -- without one server that can't be learnt it is after one round more
+  -- without one server that can't be learnt, what is learnt after one round more is among the names
   pub one_above : (rounds : ℕ) (followed fewer : List Labels) (server : Labels) → AreAbove config rewrites rounds followed → (learns_in followed server → ⊥)
       → ((name : Labels) → Contains followed name → Contains fewer name ⊎ (server ≡ name)) → AreAbove config rewrites (suc rounds) fewer
   one_above rounds followed fewer server above not_learnt from =
@@ -152,7 +154,7 @@ module _ (config : Config) (rewrites : ℕ) where
         | inr equal ↦ subst (λ (n : ℕ). AreAbove config rewrites n followed) (let e : rounds ≡ suc total = omega arith in e) above
       ]
 
-  -- where each server of it can be learnt, it is the greatest set
+  -- if each server of the names can be learnt, they are the greatest set
   pub is_greatest : (rounds : ℕ) (followed : List Labels) (test : Labels → Bool) → rounds ≤ length config.servers → AreAbove config rewrites rounds followed
       → ((name : Labels) → Contains names name → (test name ≡ true) ↔ Contains followed name)
       → ((name : Labels) → Contains followed name → Contains names name × learns_in followed name)

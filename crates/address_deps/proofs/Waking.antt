@@ -50,7 +50,7 @@ module _ (config : Config) (told : List AddressTold) (places : map.BTreeMap Labe
   alike place within not_listed what here =
       record { name = name; apart = apart; not_awaited = λ awaited. not_listed (dependents.listed place what within here name awaited) }
 
-  -- where the other has more, who can't be learnt still can't be
+  -- a server that can't be learnt with some names still can't with more, if it doesn't wait for the new one
   pub still_none_more : ((server : Labels) → is_among one server ≡ true → is_among other server ≡ true) → (place : ℕ) → place < length told
       → NoneMoreLearntAt config told one place → Contains (places_of places name) place ⊎ NoneMoreLearntAt config told other place
   still_none_more more place within closed =
@@ -63,7 +63,7 @@ module _ (config : Config) (told : List AddressTold) (places : map.BTreeMap Labe
             (same_told rewrites config server.name at.one at.is_told other one (alike_back (told_awaits config at.one) one other (alike place within not_listed at.one at.here)) of_other of_one learns)))
       ]
 
-  -- where the other has fewer, who can be learnt still can
+  -- a server that can be learnt with some names still can with fewer, if it doesn't wait for the one taken away
   pub still_learnt : ((server : Labels) → is_among other server ≡ true → is_among one server ≡ true) → (place : ℕ) → place < length told
       → IsLearntAt config told one place → Contains (places_of places name) place ⊎ IsLearntAt config told other place
   still_learnt fewer place within learnt =
@@ -96,7 +96,7 @@ module _ (name : Labels) (one other : List Labels) where
       by true = refl
       by false = has
 
-    -- when a name is put among others, it is among them
+    -- when a name is put among others, the name is among them
     pub put_there : is_among other name ≡ true
     put_there = put name ∙ ap (λ (b : Bool). b || is_among one name) ((name_eq_decides name name).1 refl)
 
@@ -112,6 +112,6 @@ module _ (name : Labels) (one other : List Labels) where
       by true e = cc
       by false e = e
 
-    -- when a name is taken away from others, it isn't among them
+    -- when a name is taken away from others, the name isn't among them
     pub gone_there : is_among other name ≡ false
     gone_there = gone name ∙ ap (λ (b : Bool). not b && is_among one name) ((name_eq_decides name name).1 refl)

@@ -28,12 +28,12 @@ abbrev pub branch_gives : Config → List Labels → List Bool → Branch → Bo
 branch_gives config followed marks (Go hop to) = may_take config followed hop && is_marked marks to
 branch_gives config followed marks (End hop leaf) = gives_address leaf
 
--- one for each mark that isn't set
+-- one for a mark that isn't set, and zero for one that is
 abbrev pub unset : Bool → ℕ
 unset true = 0
 unset false = 1
 
--- how many aren't
+-- how many of the marks aren't set
 abbrev pub unmarked : List Bool → ℕ
 unmarked marks = sum_by unset marks
 

@@ -15,7 +15,7 @@ use Rattle.address_deps.specs.declared.told.AddressTold.{AddressTold}
 abbrev pub absent : List Server → List Labels → ℕ
 absent servers names = sum_by (λ server. unset (is_among names server.name)) servers
 
--- how many are
+-- how many servers are in the list
 abbrev pub present : List Server → List Labels → ℕ
 present servers names = sum_by (λ server. unset (not (is_among names server.name))) servers
 
@@ -54,7 +54,7 @@ pub record IsShrinking (config : Config) (told : List AddressTold) (known : List
   pub above : (rewrites : ℕ) → AreTold config rewrites told
       → (rounds : ℕ) × (rounds + present config.servers known ≤ length config.servers) × AreAbove config rewrites rounds known
 
--- each can be learnt
+-- the address of each server of the list can be learnt while the servers of the list are followed
 abbrev pub AreLearnt : Config → List AddressTold → List Labels → Type 0
 AreLearnt config told known =
     (rewrites : ℕ) → AreTold config rewrites told → (name : Labels) → Contains (server_names config) name

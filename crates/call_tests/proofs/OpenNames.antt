@@ -15,7 +15,7 @@ use Rattle.label_graph.specs.Pairs.{AreSame}
 use Rattle.query_classes.proofs.SameGrounds.{unnamed_same}
 use Rattle.interp_graph.specs.Asked.{AskedWith, IsAsked, IsOpenName}
 
--- a name that is below its class's name in the configuration's label graph is an open one
+-- a name that is below its class's name in the configuration's label graph is an open name
 pub open_below : (config : Config) (graph : Ground) (name above : Labels) (class : Class) → wire_octets name ≤ 255
     → AreSame graph (ground_of config) → IsClassOf graph name class → class ≡ Below above → IsOpenName config name
 open_below config graph name above class short same of below =
@@ -24,7 +24,7 @@ open_below config graph name above class short same of below =
       unnamed = unnamed_same graph (ground_of config) same name (subst (λ (x : Class). IsClassOf graph name x) below of).0;
     }
 
--- so a graph may be asked for of the name that makes it with its tail
+-- a graph may be asked for of a known name with a tail that together make an open name
 pub asked_with_tail : (config : Config) (name : SymName) (joined : Labels) → joined ≡ whole name → IsOpenName config joined → IsAsked config name
 asked_with_tail config name joined is open_name = by name.tail where
   by : (tail : Option (List ℕ)) → AskedWith config name tail

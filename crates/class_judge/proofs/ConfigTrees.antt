@@ -21,7 +21,7 @@ children_of config = trees.names_below (whole_config config 0) (own_covers confi
 abbrev pub verdict_of : Config → ℕ → ℕ → Labels → NameVerdict ClassVerdict
 verdict_of config rewrites states = trees.verdict_of (whole_config config rewrites) (own_covers config) states
 
--- they are the values of the configuration
+-- the names below each name of the class tree, with the verdicts, are the configuration's values
 pub values : (config : Config) (rewrites states : ℕ) → AreValues (whole_config config rewrites) states (children_of config) (verdict_of config rewrites states)
 values config rewrites states = trees.values (whole_config config rewrites) (own_covers config) states
 

@@ -69,7 +69,7 @@ TellsNoOther-without told file name =
 pub without-here : (told : FilesTold) (file : List ℕ) → without file told file ≡ Untold
 without-here told file = ap (λ b. if b then Untold else told file) ((label_eq_decides file file).1 refl)
 
--- a file alone is told, and not without it
+-- a file of which something is told, but nothing without this one, is this one
 pub without-only : (told : FilesTold) (file name : List ℕ) → without file told name ≡ Untold → told name ≢ Untold → name ≡ file
 without-only told file name untold some = by_test (pointwise nat_eq name file) refl untold where
   by_test : (same : Bool) → pointwise nat_eq name file ≡ same → (if same then Untold else told name) ≡ Untold → name ≡ file
@@ -77,14 +77,14 @@ without-only told file name untold some = by_test (pointwise nat_eq name file) r
   by_test false apart gone = absurd (some gone)
 
 module _ {A : Type 0} where
-  -- the reading comes to a file to which what is told takes it
+  -- a reading comes to each file to which what is told takes it
   pub comes-reaches : (told : FilesTold) (reading : ByTold A) (file : List ℕ) → Reaches told reading file → ComesToFile reading told file
   comes-reaches told reading file a = by_cases (a (without file told) (TellsNoOther-without told file) (without-here told file)) where
     by_cases : (reading (without file told) ≡ Unknown file) ⊎ StopsEarly told (without file told) (reading (without file told)) → ComesToFile reading told file
     by_cases (inl e) = e
     by_cases (inr (name, is, untold, some)) = is ∙ ap Unknown (without-only told file name untold some)
 
-  -- a failed read is of such a file
+  -- a reading whose answer is a failed read failed at a file to which it comes
   pub FailedWhereItCame-answers : (told : FilesTold) (reading : ByTold A) (result : Result A LoadFault) → Answers told reading result → FailedWhereItCame reading told result
   FailedWhereItCame-answers told reading (Err (Read file)) a = comes-reaches told reading file a
   FailedWhereItCame-answers told reading (Ok value) a = tt

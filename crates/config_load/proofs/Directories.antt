@@ -39,7 +39,7 @@ IsUtf8-after_slash bs xs ys text parts =
     subst IsUtf8 (drop-append-add xs (47 ∷ ys) 1)
     (IsUtf8-drop (xs ++ 47 ∷ ys) (length xs + 1) whole (IsCharBoundary-after_ascii (xs ++ 47 ∷ ys) (length xs) whole within ascii))
 
--- no octet is the slash, if none in its place is
+-- octets of which none is the slash have no slash
 pub no_slash : (bs : List ℕ) → ((i : ℕ) → i < length bs → get_or bs i 0 ≢ 47) → list_any (nat_eq 47) bs ≡ false
 no_slash [] h = refl
 no_slash (b ∷ bs) h = neither (h 0 (omega arith)) (no_slash bs (λ i lt. h (suc i) (omega arith))) where

@@ -29,11 +29,11 @@ module _ {A : Type 0} where
     before (inl none) gone = none
     before (inr same) gone = sym same ∙ gone
 
-  -- nothing was read so far
+  -- what is told takes a reading to each reading that is the same whatever is told
   pub Follows-same : (told : FilesTold) (first second : ByTold A) → ((other : FilesTold) → first other ≡ second other) → Follows told first second
   Follows-same told first second same other no_other = inl (same other)
 
-  -- a part of the way, and the next
+  -- if what is told takes a first reading to a second, and that one to a third, it takes the first to the third
   pub Follows-then : (old new : FilesTold) (first second third : ByTold A) → StaysTold old new → Follows old first second → Follows new second third → Follows new first third
   Follows-then old new first second third stays a b other no_other = by_cases (a other (TellsNoOther-stays old new other stays no_other)) (b other no_other) where
     by_cases : (first other ≡ second other) ⊎ StopsEarly old other (first other) → (second other ≡ third other) ⊎ StopsEarly new other (second other) → (first other ≡ third other) ⊎ StopsEarly new other (first other)
@@ -43,7 +43,7 @@ module _ {A : Type 0} where
       stops_early : StaysTold old new
       stops_early = stays
 
-  -- what is reached behind a part of the way
+  -- a file that a later part of a reading reaches is reached by the whole reading
   pub Reaches-then : (old new : FilesTold) (first second : ByTold A) (file : List ℕ) → StaysTold old new → Follows old first second → Reaches new second file → Reaches new first file
   Reaches-then old new first second file stays a b other no_other gone = by_cases (a other (TellsNoOther-stays old new other stays no_other)) (b other no_other gone) where
     by_cases : (first other ≡ second other) ⊎ StopsEarly old other (first other) → (second other ≡ Unknown file) ⊎ StopsEarly new other (second other) → (first other ≡ Unknown file) ⊎ StopsEarly new other (first other)
@@ -66,7 +66,7 @@ module _ {A B : Type 0} where
   StopsEarly-bind : (told other : FilesTold) (reading : Reading A) (next : A → Reading B) → StopsEarly told other reading → StopsEarly told other (reading >>= next)
   StopsEarly-bind told other reading next (name, is, untold, some) = (name, ap (λ r. r >>= next) is, untold, some)
 
-  -- the first step of a reading
+  -- what takes a reading to another takes it there with the same next step behind both
   pub Follows-bind : (told : FilesTold) (first second : ByTold A) (next : FilesTold → A → Reading B) → Follows told first second → Follows told (λ t. first t >>= next t) (λ t. second t >>= next t)
   Follows-bind told first second next a other no_other = by_cases (a other no_other) where
     by_cases : (first other ≡ second other) ⊎ StopsEarly told other (first other) → (first other >>= next other ≡ second other >>= next other) ⊎ StopsEarly told other (first other >>= next other)
@@ -91,13 +91,13 @@ module _ {A B : Type 0} where
   Answers-bind told first next (ZoneTwice row) a = Follows-bind told first (λ _. Refuses (ZoneTwice row)) next a
 
 module _ {A B : Type 0} where
-  -- a fault of the first step that is passed on
+  -- a fault of the first step that is passed on answers both steps
   pub Answers-passed : (told : FilesTold) (first : ByTold A) (next : FilesTold → A → Reading B) (fault : LoadFault) (result : Result B LoadFault) → IsErrAnd result (λ passed. passed ≡ fault) → (let answer : Result A LoadFault = Err fault in Answers told first answer) → Answers told (λ t. first t >>= next t) result
   Answers-passed told first next fault (Ok value) is a = absurd is
   Answers-passed told first next fault (Err passed) is a =
       subst (λ f. let answer : Result B LoadFault = Err f in Answers told (λ t. first t >>= next t) answer) (sym is) (Answers-bind told first next fault a)
 
-  -- what the second step answers behind the first
+  -- what answers the second step, with the value of the first, answers both steps
   pub Answers-next : (old new : FilesTold) (first : ByTold A) (value : A) (next : FilesTold → A → Reading B) (result : Result B LoadFault) → StaysTold old new → Follows old first (λ _. Reads value) → Answers new (λ t. next t value) result → Answers new (λ t. first t >>= next t) result
   Answers-next old new first value next result stays a b =
       Answers-then old new (λ t. first t >>= next t) (λ t. next t value) result stays (Follows-bind old first (λ _. Reads value) next a) b
@@ -110,11 +110,11 @@ follows_holds told name octets reading here is other no_other = by_cases (no_oth
   by_cases (inr (inl same)) = inl (ap (told_octets name) (same ∙ here) ∙ is)
   by_cases (inr (inr untold)) = inr (name, ap (told_octets name) untold, untold, λ gone. let no : Holds octets ≡ Untold = sym here ∙ gone in absurd cc)
 
--- a file that was read to its end
+-- what is told of a file that was read to its end takes its reading to the octets
 pub Follows-whole : (told : FilesTold) (name octets : List ℕ) → told name ≡ Holds octets → length octets ≤ most_octets → Follows told (file_octets name) (λ _. Reads octets)
 Follows-whole told name octets here short = follows_holds told name octets (Reads octets) here (grind (arith, nat_tests))
 
--- a file that is too long
+-- what is told of a file that is too long takes its reading to that fault
 pub Follows-too_long : (told : FilesTold) (name : List ℕ) → IsToldAnd (told name) (λ octets. most_octets < length octets) → Follows told (file_octets name) (λ _. Refuses (TooLong name))
 Follows-too_long told name long = by_told (told name) refl long where
   by_told : (is : Told) → told name ≡ is → IsToldAnd is (λ octets. most_octets < length octets) → Follows told (file_octets name) (λ _. Refuses (TooLong name))

@@ -111,7 +111,7 @@ pub record HasOpened (meta : List ℕ) (row : MetaRow) (left : Left) (told : Fil
   pub so_far : Follows told (zone_files meta row left) (next_file meta (unwrap_or row.origin []) left times names texts name)
 
 module _ (meta : List ℕ) (row : MetaRow) (left : Left) where
-  -- the row's file
+  -- the first file of a row that is opened is the row's zone file
   pub HasOpened-first : (told : FilesTold) (names : List (List ℕ)) (name : List ℕ) (reader : Held) → names ≡ [] → name ≡ joined meta row.file → reader.ended ≡ false → reader.fed ≡ 0 → IsReaderOf reader (unwrap_or row.origin []) left.records left.includes [] [] → HasOpened meta row left told names name reader
   HasOpened-first told names name reader empty is still_open none stands = subst (λ (names : List (List ℕ)). HasOpened meta row left told names name reader) (sym empty) (record {
     texts = [];
@@ -150,7 +150,7 @@ module _ (meta : List ℕ) (row : MetaRow) (left : Left) where
             ∙ ap (λ n. next_file meta (unwrap_or row.origin []) left times names fed.texts n other) (sym is)));
       }
 
-    -- the file that is asked for is open
+    -- the file that the reader asks for is the one that is open behind those before
     pub HasOpened-asked : (asked : AfterFile) (file name : List ℕ) → asked ≡ Include file → HasFedFiles meta row left told names asked reader → name ≡ joined meta file → HasOpened meta row left told names name reader
     HasOpened-asked asked file name include fed is =
         opened-behind file name (subst (λ (a : AfterFile). HasFedFiles meta row left told names a reader) include fed) is
@@ -161,7 +161,7 @@ module _ (meta : List ℕ) (row : MetaRow) (left : Left) where
         let longer : length more ≡ length names + 1 = ap length is ∙ length-append names (name ∷ []) in
         omega (arith, opened.few, longer)
 
-    -- nothing more is asked for
+    -- if no more file is asked for, the reader is over
     pub HasFedFiles-over : HasFedFiles meta row left told names Done reader → is_over reader ≡ true
     HasFedFiles-over fed = ap (λ ended. ended || is_no_memory reader.fault) fed.goes_on.0
 
@@ -201,7 +201,7 @@ module _ (meta : List ℕ) (row : MetaRow) (left : Left) where
         ReadsFor-then {whole = zone_files meta row left} {rest = next_file meta (unwrap_or row.origin []) left opened.times names opened.texts name} opened.so_far source
         (ReadsFor-bind (file_octets name) (λ told text. files_behind meta (unwrap_or row.origin []) left opened.times (names ++ name ∷ []) (opened.texts ++ text ∷ []) told) (ReadsFor-file only))
 
-    -- the open file isn't read
+    -- an open file that isn't read answers the reading of the row's files with its fault
     pub HasAnswered-unread : {before : FilesTold} {counts counts' counts'' : List ℕ → ℕ} (fault : LoadFault) (result : Result ZoneFiles LoadFault) → ReadsFor before old counts counts' (zone_files meta row left) → HasOpened meta row left old names name reader → ReadsOnly name old new counts' counts'' → FailsToRead new name fault → (let answer : Result AfterFile LoadFault = Err fault in FailedAt counts' counts'' answer) → IsErrAnd result (λ passed. passed ≡ fault) → HasAnswered before new counts counts'' (zone_files meta row left) result
     HasAnswered-unread {counts = counts} {counts' = counts'} {counts'' = counts''} fault result source opened only fails failed is = record {
       answers = Answers-then old new (zone_files meta row left) (next_file meta (unwrap_or row.origin []) left opened.times names opened.texts name) result only.stays opened.so_far

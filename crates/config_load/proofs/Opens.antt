@@ -9,11 +9,11 @@ use Rattle.config_load.specs.Reading.{Reading, Unknown, ◌>>=◌, file_octets, 
 use Rattle.config_load.proofs.Answered.{comes-reaches}
 use Rattle.config_load.proofs.Follows.{TellsNoOther-stays, StopsEarly-stays, Reaches-then, Reaches-bind}
 
--- what two readings of a file leave
+-- two readings of one file leave what is told of every other name
 pub SameElsewhere-then : (name : List ℕ) (first between last : FilesTold) → SameElsewhere name first between → SameElsewhere name between last → SameElsewhere name first last
 SameElsewhere-then name first between last a b other apart = b other apart ∙ a other apart
 
--- a file that is read
+-- the reading of a file opens no file but this one
 pub Opens-file : (before after : FilesTold) (name : List ℕ) → SameElsewhere name before after → OpensWhereItComes before after (file_octets name)
 Opens-file before after name others file = by_test (pointwise nat_eq file name) refl where
   by_test : (same : Bool) → pointwise nat_eq file name ≡ same → (after file ≡ before file) ⊎ Reaches after (file_octets name) file
@@ -30,7 +30,7 @@ module _ {A : Type 0} where
     by_cases (inl e) = inl e
     by_cases (inr early) = inr (StopsEarly-stays old new other (reading other) stays early)
 
-  -- a part of the way, and the next
+  -- a reading opens files only where it comes, if it does so up to some step and from there on
   pub Opens-then : (before between after : FilesTold) (first second : ByTold A) → StaysTold between after → Follows between first second → OpensWhereItComes before between first → OpensWhereItComes between after second
       → OpensWhereItComes before after first
   Opens-then before between after first second stays so_far a b name = by_cases (a name) (b name) where
@@ -40,7 +40,7 @@ module _ {A : Type 0} where
     by_cases earlier (inr reached) = inr (Reaches-then between after first second name stays so_far reached)
 
 module _ {A B : Type 0} where
-  -- the first step of a reading
+  -- what is opened only where the first of two steps comes is opened only where the two come
   pub Opens-bind : (before after : FilesTold) (first : ByTold A) (next : FilesTold → A → Reading B) → OpensWhereItComes before after first → OpensWhereItComes before after (λ t. first t >>= next t)
   Opens-bind before after first next a name = by_cases (a name) where
     by_cases : (after name ≡ before name) ⊎ Reaches after first name → (after name ≡ before name) ⊎ Reaches after (λ t. first t >>= next t) name
@@ -48,7 +48,7 @@ module _ {A B : Type 0} where
     by_cases (inr reached) = inr (Reaches-bind after first next name reached)
 
 module _ {A : Type 0} where
-  -- by what is told at the end
+  -- a reading that opens a file only if what is told now takes it there opens no other file
   pub OpensNoOther-answers : (reading : ByTold A) (before after : FilesTold) → OpensWhereItComes before after reading → OpensNoOther reading before after
   OpensNoOther-answers reading before after a name = by_cases (a name) where
     by_cases : (after name ≡ before name) ⊎ Reaches after reading name → (after name ≡ before name) ⊎ ComesToFile reading after name

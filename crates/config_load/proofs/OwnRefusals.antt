@@ -135,7 +135,7 @@ metadata_read_own meta told =
     own_then (file_octets meta told) _ (octets_own meta (told meta))
     (λ octets. own_unless IsMetadataFault of_metadata (metadata_of octets) (metadata_own octets) meta_own)
 
--- the refusal of files says something of them
+-- the refusal of a configuration's files says something of them
 pub conf_own : (meta : List ℕ) (told : FilesTold) → RefusesOwn (conf meta told)
 unfolding conf
 conf_own meta told =

@@ -36,7 +36,7 @@ module _ {A : Type 0} where
       let answer : Result A LoadFault = Ok value in
       HasAnswered-looked told counts (λ _. Reads value) answer tt (Follows-same told (λ _. Reads value) (λ _. Reads value) (λ other. refl))
 
--- a zone's server has its fault, or none
+-- whether a zone is given to its server, or why not, is answered without reading a file
 pub HasAnswered-given : (told : FilesTold) (counts : List ℕ → ℕ) (number : ℕ) (name : Labels) (zone : Zone) (servers : List Server) (result : Result (List Server) LoadFault) → AnswersOr NoMemory result (given number name zone servers) → HasAnswered told told counts counts (λ _. unless_refused (λ fault. fault) (given number name zone servers)) result
 HasAnswered-given told counts number name zone servers result answered =
     HasAnswered-looked told counts (λ _. unless_refused (λ fault. fault) (given number name zone servers)) result
@@ -57,12 +57,12 @@ behind_files row left told files =
     unless_refused (of_rule files.names) (zone_of row.origin files.text.rrs) >>= λ zone. Reads (record { zone = zone; names = files.names; left = left_behind left files.text })
 
 module _ (meta : List ℕ) (row : MetaRow) (left : Left) where
-  -- a row's files that aren't read
+  -- the fault of a row's files answers the reading of the row's zone
   pub HasAnswered-no_files : {told told' : FilesTold} {counts counts' : List ℕ → ℕ} (fault : LoadFault) (result : Result ReadZone LoadFault) → IsErrAnd result (λ passed. passed ≡ fault) → (let answer : Result ZoneFiles LoadFault = Err fault in HasAnswered told told' counts counts' (zone_files meta row left) answer) → HasAnswered told told' counts counts' (zone_read meta row left) result
   unfolding zone_read
   HasAnswered-no_files fault result is read = HasAnswered-passed (zone_files meta row left) (behind_files row left) fault result is read
 
-  -- records that break a rule
+  -- records of a row's files that break a rule answer the reading of the row's zone with that fault
   pub HasAnswered-no_zone : {told told' : FilesTold} {counts counts' : List ℕ → ℕ} (read : ZoneFiles) (fault : LoadFault) (result : Result ReadZone LoadFault) → IsErrAnd result (λ passed. passed ≡ fault) → (let answer : Result ZoneFiles LoadFault = Ok read in HasAnswered told told' counts counts' (zone_files meta row left) answer) → (let answer : Result Zone LoadFault = Err fault in AnswersOr NoMemory answer (with_fault (of_rule read.names) (zone_of row.origin read.text.rrs))) → HasAnswered told told' counts counts' (zone_read meta row left) result
   unfolding zone_read
   HasAnswered-no_zone {told' = told'} {counts' = counts'} read fault result is whole answered =
@@ -71,7 +71,7 @@ module _ (meta : List ℕ) (row : MetaRow) (left : Left) where
       (HasAnswered-passed (λ _. unless_refused (of_rule read.names) (zone_of row.origin read.text.rrs)) (λ _ zone. Reads (record { zone = zone; names = read.names; left = left_behind left read.text })) fault result is
       (HasAnswered-told told' counts' (of_rule read.names) (zone_of row.origin read.text.rrs) refused (IsNoRead-of_rule read.names) answered))
 
-  -- a zone
+  -- a zone that the texts of a row's files give answers the reading of the row's zone
   pub HasAnswered-zone : {told told' : FilesTold} {counts counts' : List ℕ → ℕ} (read : ZoneFiles) (zone : Zone) (behind : Left) → behind ≡ left_behind left read.text → (let answer : Result ZoneFiles LoadFault = Ok read in HasAnswered told told' counts counts' (zone_files meta row left) answer) → (let answer : Result Zone LoadFault = Ok zone in AnswersOr NoMemory answer (with_fault (of_rule read.names) (zone_of row.origin read.text.rrs))) → (let answer : Result ReadZone LoadFault = Ok (record { zone = zone; names = read.names; left = behind }) in HasAnswered told told' counts counts' (zone_read meta row left) answer)
   unfolding zone_read
   HasAnswered-zone {told' = told'} {counts' = counts'} read zone behind is whole answered =
@@ -89,18 +89,18 @@ behind_zone number row rows told read =
     unless_refused (λ fault. fault) (given number row.server read.zone rows.servers) >>= λ servers. Reads (with_servers row.server read rows servers)
 
 module _ (meta : List ℕ) (number : ℕ) (row : MetaRow) (rows : ReadRows) where
-  -- a row whose zone isn't read
+  -- the fault of a row's zone answers the reading of the row
   pub HasAnswered-no_row : {told told' : FilesTold} {counts counts' : List ℕ → ℕ} (fault : LoadFault) (result : Result ReadRows LoadFault) → IsErrAnd result (λ passed. passed ≡ fault) → (let answer : Result ReadZone LoadFault = Err fault in HasAnswered told told' counts counts' (zone_read meta row rows.left) answer) → HasAnswered told told' counts counts' (with_row meta number row rows) result
   unfolding with_row
   HasAnswered-no_row fault result is read = HasAnswered-passed (zone_read meta row rows.left) (behind_zone number row rows) fault result is read
 
-  -- `NoMemory` behind its zone
+  -- if memory runs out behind a row's zone, `NoMemory` answers the reading of the row
   pub HasAnswered-row_wanting : {told told' : FilesTold} {counts counts' : List ℕ → ℕ} (read : ReadZone) (result : Result ReadRows LoadFault) → IsErrAnd result (λ fault. fault ≡ NoMemory) → (let answer : Result ReadZone LoadFault = Ok read in HasAnswered told told' counts counts' (zone_read meta row rows.left) answer) → HasAnswered told told' counts counts' (with_row meta number row rows) result
   unfolding with_row
   HasAnswered-row_wanting read result wants whole =
       HasAnswered-wanting result (ReadsFor-bind (zone_read meta row rows.left) (behind_zone number row rows) whole.source) wants
 
-  -- a zone that its server has
+  -- a row whose server already has the zone is answered with that fault
   pub HasAnswered-not_given : {told told' : FilesTold} {counts counts' : List ℕ → ℕ} (read : ReadZone) (fault : LoadFault) (result : Result ReadRows LoadFault) → IsErrAnd result (λ passed. passed ≡ fault) → (let answer : Result ReadZone LoadFault = Ok read in HasAnswered told told' counts counts' (zone_read meta row rows.left) answer) → (let answer : Result (List Server) LoadFault = Err fault in AnswersOr NoMemory answer (given number row.server read.zone rows.servers)) → HasAnswered told told' counts counts' (with_row meta number row rows) result
   unfolding with_row
   HasAnswered-not_given {told' = told'} {counts' = counts'} read fault result is whole answered =
@@ -109,7 +109,7 @@ module _ (meta : List ℕ) (number : ℕ) (row : MetaRow) (rows : ReadRows) wher
       (HasAnswered-passed (λ _. unless_refused (λ fault. fault) (given number row.server read.zone rows.servers)) (λ _ servers. Reads (with_servers row.server read rows servers)) fault result is
       (HasAnswered-given told' counts' number row.server read.zone rows.servers refused answered))
 
-  -- a row
+  -- a zone that its server doesn't have yet answers the reading of the row
   pub HasAnswered-row : {told told' : FilesTold} {counts counts' : List ℕ → ℕ} (read : ReadZone) (servers : List Server) → (let answer : Result ReadZone LoadFault = Ok read in HasAnswered told told' counts counts' (zone_read meta row rows.left) answer) → (let answer : Result (List Server) LoadFault = Ok servers in AnswersOr NoMemory answer (given number row.server read.zone rows.servers)) → (let answer : Result ReadRows LoadFault = Ok (with_servers row.server read rows servers) in HasAnswered told told' counts counts' (with_row meta number row rows) answer)
   unfolding with_row
   HasAnswered-row {told' = told'} {counts' = counts'} read servers whole answered =
@@ -120,7 +120,7 @@ module _ (meta : List ℕ) (number : ℕ) (row : MetaRow) (rows : ReadRows) wher
       (HasAnswered-given told' counts' number row.server read.zone rows.servers more answered)
       (reads told' counts' (with_servers row.server read rows servers)))
 
-  -- a row whose zone was read
+  -- a row whose zone was read is answered by whether its server is given the zone
   pub HasAnswered-read : {told told' : FilesTold} {counts counts' : List ℕ → ℕ} (read : ReadZone) (result : Result ReadRows LoadFault) → (let answer : Result ReadZone LoadFault = Ok read in HasAnswered told told' counts counts' (zone_read meta row rows.left) answer) → AnswersOr NoMemory result (row_read number row.server read rows) → HasAnswered told told' counts counts' (with_row meta number row rows) result
   HasAnswered-read {told} {told'} {counts} {counts'} read result whole answered = by (given number row.server read.zone rows.servers) refl result answered where
     goal_of : Result ReadRows LoadFault → Type 0
@@ -137,17 +137,17 @@ module _ (meta : List ℕ) (number : ℕ) (row : MetaRow) (rows : ReadRows) wher
     by (Err refused) is (Err fault) (inr same) = HasAnswered-not_given read refused (Err fault) (sym (err_same same)) whole (inr is)
 
 module _ (meta : List ℕ) (number : ℕ) (row : MetaRow) (others : List MetaRow) (rows : ReadRows) where
-  -- a row that ends the reading
+  -- the fault of a row answers the reading of it and the rows behind it
   pub HasAnswered-first_row : {told told' : FilesTold} {counts counts' : List ℕ → ℕ} (fault : LoadFault) (result : Result ReadRows LoadFault) → IsErrAnd result (λ passed. passed ≡ fault) → (let answer : Result ReadRows LoadFault = Err fault in HasAnswered told told' counts counts' (with_row meta number row rows) answer) → HasAnswered told told' counts counts' (with_rows meta number (row ∷ others) rows) result
   unfolding with_rows
   HasAnswered-first_row fault result is read = HasAnswered-passed (with_row meta number row rows) (λ t rows. with_rows meta (number + 1) others rows t) fault result is read
 
-  -- what a row reads
+  -- files that are read for a row are read for it and the rows behind it
   pub ReadsFor-first_row : {told told' : FilesTold} {counts counts' : List ℕ → ℕ} → ReadsFor told told' counts counts' (with_row meta number row rows) → ReadsFor told told' counts counts' (with_rows meta number (row ∷ others) rows)
   unfolding with_rows
   ReadsFor-first_row source = ReadsFor-bind (with_row meta number row rows) (λ t rows. with_rows meta (number + 1) others rows t) source
 
-  -- a row, and those behind it
+  -- if a row is read, the reading of it and the rows behind it goes on with those rows
   pub Follows-first_row : (told : FilesTold) (more : ReadRows) → Follows told (with_row meta number row rows) (λ _. Reads more) → Follows told (with_rows meta number (row ∷ others) rows) (with_rows meta (number + 1) others more)
   unfolding with_rows
   Follows-first_row told more whole =
@@ -162,31 +162,31 @@ abbrev behind_metadata : List ℕ → FilesTold → Metadata → Reading Loaded
 behind_metadata meta told found = with_rows meta 1 found.rows no_rows told >>= λ rows. Reads (loaded_of found rows)
 
 module _ (meta : List ℕ) where
-  -- a metadata file that isn't read
+  -- the fault of a metadata file that isn't read answers the reading of the metadata
   pub HasAnswered-no_octets : {told told' : FilesTold} {counts counts' : List ℕ → ℕ} (fault : LoadFault) (result : Result Metadata LoadFault) → IsErrAnd result (λ passed. passed ≡ fault) → (let answer : Result (List ℕ) LoadFault = Err fault in HasAnswered told told' counts counts' (file_octets meta) answer) → HasAnswered told told' counts counts' (metadata meta) result
   unfolding metadata
   HasAnswered-no_octets fault result is read = HasAnswered-passed (file_octets meta) (λ _ octets. unless_refused of_metadata (metadata_of octets)) fault result is read
 
-  -- the metadata of its octets
+  -- what a metadata file's octets read as answers the reading of the metadata
   pub HasAnswered-octets : {told told' : FilesTold} {counts counts' : List ℕ → ℕ} (octets : List ℕ) (result : Result Metadata LoadFault) → (let answer : Result (List ℕ) LoadFault = Ok octets in HasAnswered told told' counts counts' (file_octets meta) answer) → AnswersOr NoMemory result (with_fault of_metadata (metadata_of octets)) → HasAnswered told told' counts counts' (metadata meta) result
   unfolding metadata
   HasAnswered-octets {told' = told'} {counts' = counts'} octets result whole answered =
       HasAnswered-next (file_octets meta) octets (λ _ octets. unless_refused of_metadata (metadata_of octets)) result whole
       (HasAnswered-told told' counts' of_metadata (metadata_of octets) result IsNoRead-of_metadata answered)
 
-  -- metadata that don't read
+  -- the fault of metadata that don't read answers the reading of the configuration
   pub HasAnswered-no_metadata : {told told' : FilesTold} {counts counts' : List ℕ → ℕ} (fault : LoadFault) (result : Result Loaded LoadFault) → IsErrAnd result (λ passed. passed ≡ fault) → (let answer : Result Metadata LoadFault = Err fault in HasAnswered told told' counts counts' (metadata meta) answer) → HasAnswered told told' counts counts' (loaded meta) result
   unfolding loaded
   HasAnswered-no_metadata fault result is read = HasAnswered-passed (metadata meta) (behind_metadata meta) fault result is read
 
-  -- rows that don't read
+  -- the fault of rows that don't read answers the reading of the configuration
   pub HasAnswered-no_rows : {before between after : FilesTold} {counts counts' counts'' : List ℕ → ℕ} (found : Metadata) (fault : LoadFault) (result : Result Loaded LoadFault) → IsErrAnd result (λ passed. passed ≡ fault) → (let answer : Result Metadata LoadFault = Ok found in HasAnswered before between counts counts' (metadata meta) answer) → (let answer : Result ReadRows LoadFault = Err fault in HasAnswered between after counts' counts'' (with_rows meta 1 found.rows no_rows) answer) → HasAnswered before after counts counts'' (loaded meta) result
   unfolding loaded
   HasAnswered-no_rows found fault result is whole read =
       HasAnswered-next (metadata meta) found (behind_metadata meta) result whole
       (HasAnswered-passed (with_rows meta 1 found.rows no_rows) (λ _ rows. Reads (loaded_of found rows)) fault result is read)
 
-  -- the configuration
+  -- the metadata and the rows answer the reading of the configuration, with the rows
   pub HasAnswered-loaded : {before between after : FilesTold} {counts counts' counts'' : List ℕ → ℕ} (found : Metadata) (rows : ReadRows) → (let answer : Result Metadata LoadFault = Ok found in HasAnswered before between counts counts' (metadata meta) answer) → (let answer : Result ReadRows LoadFault = Ok rows in HasAnswered between after counts' counts'' (with_rows meta 1 found.rows no_rows) answer) → (let answer : Result Loaded LoadFault = Ok (loaded_of found rows) in HasAnswered before after counts counts'' (loaded meta) answer)
   unfolding loaded
   HasAnswered-loaded {after = after} {counts'' = counts''} found rows whole all =
@@ -195,7 +195,7 @@ module _ (meta : List ℕ) where
       (HasAnswered-next (with_rows meta 1 found.rows no_rows) rows (λ _ rows. Reads (loaded_of found rows)) answer all
       (reads after counts'' (loaded_of found rows)))
 
-  -- with the configuration the rows were read
+  -- the configuration that is read is that of the configuration with its rows
   pub conf-loaded : (told : FilesTold) → conf meta told ≡ (loaded meta told >>= λ all. Reads all.config)
   unfolding conf loaded
   conf-loaded told = by (metadata meta told) where
@@ -214,13 +214,13 @@ module _ (meta : List ℕ) where
     by (Misses file) = refl
     by (Unknown file) = refl
 
-  -- a configuration that isn't read
+  -- the fault of the configuration with its rows answers the reading of the configuration
   pub HasAnswered-no_config : {told told' : FilesTold} {counts counts' : List ℕ → ℕ} (fault : LoadFault) (result : Result Config LoadFault) → IsErrAnd result (λ passed. passed ≡ fault) → (let answer : Result Loaded LoadFault = Err fault in HasAnswered told told' counts counts' (loaded meta) answer) → HasAnswered told told' counts counts' (conf meta) result
   HasAnswered-no_config {told} {told'} {counts} {counts'} fault result is read =
       subst (λ (reading : ByTold Config). HasAnswered told told' counts counts' reading result) (λ i t. sym (conf-loaded t) i)
       (HasAnswered-passed (loaded meta) (λ _ all. Reads all.config) fault result is read)
 
-  -- the configuration
+  -- what answers the reading of the configuration with the rows answers that of the configuration alone
   pub HasAnswered-config : {told told' : FilesTold} {counts counts' : List ℕ → ℕ} (all : Loaded) → (let answer : Result Loaded LoadFault = Ok all in HasAnswered told told' counts counts' (loaded meta) answer) → (let answer : Result Config LoadFault = Ok all.config in HasAnswered told told' counts counts' (conf meta) answer)
   HasAnswered-config {told} {told'} {counts} {counts'} all read =
       let answer : Result Config LoadFault = Ok all.config in

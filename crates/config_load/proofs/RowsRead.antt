@@ -158,7 +158,7 @@ module _ (meta : List ℕ) (told : FilesTold) where
     once = λ i j d before within. absurd (omega arith);
   }
 
-  -- so each row has its zone, and each zone its row, in all that the files give
+  -- in all that the files give, each row has its zone, and each zone its row
   pub rows_read : (all : Loaded) → loaded meta told ≡ Reads all → RowsHaveZones meta told all
   unfolding loaded
   rows_read all is =

@@ -27,7 +27,7 @@ place_of-below name (server ∷ servers) place is =
     by_test false (Some p) below is = let e : suc p ≡ place = cc in omega (arith, below p refl)
     by_test false None below is = absurd cc
 
--- the server of this name has one zone more, where there is one
+-- a zone that goes to the server of this name, where there is one, goes to the server at its place
 pub with_zone-at : (name : Labels) (zone : Zone) (servers : List Server) (place : ℕ) → server_place name servers ≡ Some place → with_zone name zone servers ≡ with_zone_at place zone servers
 with_zone-at name zone [] place is = absurd cc
 with_zone-at name zone (server ∷ servers) place is =
@@ -41,7 +41,7 @@ with_zone-at name zone (server ∷ servers) place is =
     by_test false (Some p) same place is = let e : suc p ≡ place = cc in ap (λ ss. server ∷ ss) (same p refl) ∙ ap (λ p. with_zone_at p zone (server ∷ servers)) e
     by_test false None same place is = absurd cc
 
--- where no server has the name, the zone goes to a server behind the others
+-- a zone of a server that isn't there yet goes to a new server behind the others
 pub with_zone-new : (name : Labels) (zone : Zone) (servers : List Server) → server_place name servers ≡ None → with_zone name zone servers ≡ servers ++ (record { name = name; zones = zone ∷ [] }) ∷ []
 with_zone-new name zone [] is = refl
 with_zone-new name zone (server ∷ servers) is =
@@ -60,7 +60,7 @@ place_of-kept name other zone servers place is = kept servers place where
   kept (server ∷ servers) zero = refl
   kept (server ∷ servers) (suc place) = ap (λ rest. if name_eq other server.name then Some 0 else option_map (λ p. suc p) rest) (kept servers place)
 
--- the place of a server that comes behind the others
+-- the place of a server that comes behind the others is their number
 pub place_of-more : (other : Labels) (servers : List Server) (last : Server) → server_place other (servers ++ last ∷ []) ≡ option_or (server_place other servers) (if name_eq other last.name then Some (length servers) else None)
 place_of-more other [] last = elim (name_eq other last.name) as (λ b. (if b then Some 0 else option_map (λ p. suc p) None) ≡ (if b then Some 0 else None)) [ true ↦ refl | false ↦ refl ]
 place_of-more other (server ∷ servers) last =
@@ -73,7 +73,7 @@ place_of-more other (server ∷ servers) last =
     by_tests false None true = refl
     by_tests false None false = refl
 
--- a zone more is a zone of its server, and no other one is
+-- the servers with one zone more have the zones that they had and this one
 pub has_zone-more : (name : Labels) (zone : Zone) (servers : List Server) (other origin : Labels) → has_zone other origin (with_zone name zone servers) ≡ ((name_eq other name && name_eq origin zone.origin) || has_zone other origin servers)
 has_zone-more name zone [] other origin = by_tests (name_eq other name) (name_eq origin zone.origin) where
   by_tests : (a b : Bool) → ((a && (b || false)) || false) ≡ ((a && b) || false)
@@ -120,7 +120,7 @@ has_zone-more name zone (server ∷ servers) other origin =
         ap (λ has. (name_eq other server.name && list_any is_zone server.zones) || has) later
         ∙ moved (name_eq other server.name && list_any is_zone server.zones) at_this rest
 
--- what is written over a server at its place
+-- writing a server with one zone more over the server at a place gives that server the zone
 pub with_zone_at-set : (servers : List Server) (place : ℕ) (server : Server) (zone : Zone) (zones : List Zone) → place < length servers → server ≡ get_or servers place server → zones ≡ server.zones ++ zone ∷ [] → slice_set servers place (record { name = server.name; zones = zones }) ≡ with_zone_at place zone servers
 with_zone_at-set [] place server zone zones below here more = absurd (omega arith)
 with_zone_at-set (first ∷ servers) zero server zone zones below here more =
@@ -136,7 +136,7 @@ pub ArePlaces-kept : (places : map.BTreeMap Labels ℕ) (name : Labels) (zone : 
 ArePlaces-kept places name zone servers place are here other =
     are other ∙ sym (place_of-kept name other zone servers place here)
 
--- a server more has the place behind the others
+-- the places of servers are right with one more server, whose place is behind the others
 pub ArePlaces-more : (old new : map.BTreeMap Labels ℕ) (name : Labels) (zones : List Zone) (servers : List Server) → ArePlaces old servers → server_place name servers ≡ None → map.Updates name_cmp old new name (Some (length servers)) → ArePlaces new (servers ++ (record { name = name; zones = zones }) ∷ [])
 ArePlaces-more old new name zones servers are none updates other =
     updates.0 other
@@ -158,7 +158,7 @@ ArePlaces-more old new name zones servers are none updates other =
         sym (ap (λ o. option_or o (Some (length servers))) gone)
     by_test false apart = or_none (server_place other servers)
 
--- a zone more is told from then on
+-- a set that tells which zones servers have tells of one zone more once its name and origin are put in
 pub AreTellers-more : (old new : tree.BTreeSet (List Labels)) (name : Labels) (zone : Zone) (servers : List Server) → AreTellers old servers → tree.Updates (slice_cmp name_cmp) old new (name ∷ zone.origin ∷ []) true → AreTellers new (with_zone name zone servers)
 AreTellers-more old new name zone servers are updates other origin =
     updates.0 (other ∷ origin ∷ [])
@@ -192,7 +192,7 @@ pub given-more : (number : ℕ) (name : Labels) (zone : Zone) (servers : List Se
 given-more number name zone servers new =
     ap (λ b. if b then Err (ZoneTwice number) else Ok (with_zone name zone servers)) new
 
--- what a set says of a key by whether it was added
+-- a set had a key exactly if a call that adds the key says that it was known
 pub known-added : (added had known : Bool) → added ≡ known → added ≡ not had → had ≡ not known
 known-added true true known a b = absurd cc
 known-added true false known a b = sym (ap not (sym a))

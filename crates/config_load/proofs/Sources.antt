@@ -18,17 +18,17 @@ use Rattle.config_load.proofs.Follows.{Follows-whole, Follows-bind, Answers-then
 use Rattle.config_load.proofs.Opens.{SameElsewhere-then, Opens-file, Opens-then, Opens-bind}
 use Rattle.config_load.proofs.Steps.{IsNoRead, Answers-free, Answers-told, Answers-wanting, FailedAt-wanting}
 
--- of a file nothing was read yet
+-- no octet is told of a file of which none was read
 pub first_told-none : (told : Told) → first_told told 0 ≡ []
 first_told-none Untold = refl
 first_told-none NotHeld = refl
 first_told-none (Holds octets) = refl
 
--- a file of which nothing more was read
+-- a file of which nothing was read is the only file that was read
 pub ReadsOnly-none : (name : List ℕ) (told : FilesTold) (counts : List ℕ → ℕ) → ReadsOnly name told told counts counts
 ReadsOnly-none name told counts = record { stays = λ _. inr refl; others = λ _ _. refl; never_fall = λ _. omega arith }
 
--- two readings of a file
+-- two readings of one file, one after the other, read that file alone
 pub ReadsOnly-then : {name : List ℕ} {first between last : FilesTold} {counts counts' counts'' : List ℕ → ℕ} → ReadsOnly name first between counts counts' → ReadsOnly name between last counts' counts'' → ReadsOnly name first last counts counts''
 ReadsOnly-then {name} {first} {between} {last} {counts} {counts'} {counts''} a b = record {
   stays = StaysTold-then first between last a.stays b.stays;
@@ -36,13 +36,13 @@ ReadsOnly-then {name} {first} {between} {last} {counts} {counts'} {counts''} a b
   never_fall = NoneFell-then counts counts' counts'' a.never_fall b.never_fall;
 }
 
--- a count that rose behind others that didn't fall
+-- a count that didn't fall and then rose has risen
 pub rose_then : (before between after : ℕ) → before ≤ between → Rose between after → Rose before after
 rose_then before between after below (inl less) = inl (omega arith)
 rose_then before between after below (inr last) = inr last
 
 module _ {A : Type 0} where
-  -- a failure behind what was read before
+  -- a failed read stays one in the counts from before, if none fell until then
   pub FailedAt-then : (counts counts' counts'' : List ℕ → ℕ) (result : Result A LoadFault) → NoneFell counts counts' → FailedAt counts' counts'' result → FailedAt counts counts'' result
   FailedAt-then counts counts' counts'' (Ok value) none failed = tt
   FailedAt-then counts counts' counts'' (Err (Read file)) none failed = rose_then (counts file) (counts' file) (counts'' file) (none file) failed
@@ -53,7 +53,7 @@ module _ {A : Type 0} where
   FailedAt-then counts counts' counts'' (Err (ZoneTwice row)) none failed = tt
   FailedAt-then counts counts' counts'' (Err NoMemory) none failed = tt
 
-  -- no read failed
+  -- an error that isn't a failed read needs no failure in a count
   pub FailedAt-no_read : (counts counts' : List ℕ → ℕ) (result : Result A LoadFault) → IfErr result IsNoRead → FailedAt counts counts' result
   FailedAt-no_read counts counts' (Ok value) never = tt
   FailedAt-no_read counts counts' (Err (Read file)) never = absurd never
@@ -65,7 +65,7 @@ module _ {A : Type 0} where
   FailedAt-no_read counts counts' (Err NoMemory) never = tt
 
 module _ (A : Type 0) where
-  -- the read of a file failed
+  -- the fault of a read that failed has its cause in the count of that file
   pub FailedAt-read : (counts counts' : List ℕ → ℕ) (name : List ℕ) (fault : LoadFault) → IsReadOf name fault → Rose (counts name) (counts' name) → (let answer : Result A LoadFault = Err fault in FailedAt counts counts' answer)
   FailedAt-read counts counts' name (Read file) is rose = subst (λ n. Rose (counts n) (counts' n)) (sym is) rose
   FailedAt-read counts counts' name NoMemory is rose = tt
@@ -86,7 +86,7 @@ module _ (A : Type 0) where
   FailedAt-too_long counts counts' name (ZoneTwice row) is = absurd is
 
 module _ (A : Type 0) {B : Type 0} where
-  -- a fault that is passed on
+  -- a fault that is passed on has the cause that it had
   pub FailedAt-passed : (counts counts' : List ℕ → ℕ) (fault : LoadFault) (result : Result B LoadFault) → IsErrAnd result (λ passed. passed ≡ fault) → (let answer : Result A LoadFault = Err fault in FailedAt counts counts' answer) → FailedAt counts counts' result
   FailedAt-passed counts counts' fault (Ok value) is failed = absurd is
   FailedAt-passed counts counts' fault (Err passed) is failed =
@@ -102,11 +102,11 @@ module _ (A : Type 0) {B : Type 0} where
       same NoMemory failed = tt
 
 module _ {A : Type 0} where
-  -- no file is read
+  -- if no file is read, no file is read but those to which a reading comes
   pub ReadsFor-none : (told : FilesTold) (counts : List ℕ → ℕ) (reading : ByTold A) → ReadsFor told told counts counts reading
   ReadsFor-none told counts reading = record { stays = λ _. inr refl; opens = λ _. inl refl; never_fall = λ _. omega arith }
 
-  -- a part of the way, and the next
+  -- what is read for a reading, and then for the rest of it, is read for the reading
   pub ReadsFor-then : {first between last : FilesTold} {counts counts' counts'' : List ℕ → ℕ} {whole rest : ByTold A} → Follows between whole rest → ReadsFor first between counts counts' whole → ReadsFor between last counts' counts'' rest → ReadsFor first last counts counts'' whole
   ReadsFor-then {first} {between} {last} {counts} {counts'} {counts''} {whole} {rest} so_far a b = record {
     stays = StaysTold-then first between last a.stays b.stays;
@@ -114,7 +114,7 @@ module _ {A : Type 0} where
     never_fall = NoneFell-then counts counts' counts'' a.never_fall b.never_fall;
   }
 
-  -- what is answered behind a part of the way
+  -- what answers the rest of a reading answers the reading
   pub HasAnswered-then : {first between last : FilesTold} {counts counts' counts'' : List ℕ → ℕ} {whole rest : ByTold A} {result : Result A LoadFault} → Follows between whole rest → ReadsFor first between counts counts' whole → HasAnswered between last counts' counts'' rest result → HasAnswered first last counts counts'' whole result
   HasAnswered-then {first} {between} {last} {counts} {counts'} {counts''} {whole} {rest} {result} so_far a b = record {
     answers = Answers-then between last whole rest result b.source.stays so_far b.answers;
@@ -122,7 +122,7 @@ module _ {A : Type 0} where
     source = ReadsFor-then so_far a b.source;
   }
 
-  -- an answer for which no file is read
+  -- a reading for which no file is read is answered by what was told before
   pub HasAnswered-looked : (told : FilesTold) (counts : List ℕ → ℕ) (reading : ByTold A) (result : Result A LoadFault) → IfErr result IsNoRead → Answers told reading result → HasAnswered told told counts counts reading result
   HasAnswered-looked told counts reading result never answers = record {
     answers = answers;
@@ -151,7 +151,7 @@ module _ {T E : Type 0} where
       each (Err fault) = never fault
 
 module _ {A B : Type 0} where
-  -- what the first step of a reading reads
+  -- what is read for the first of two steps is read for both
   pub ReadsFor-bind : {told told' : FilesTold} {counts counts' : List ℕ → ℕ} (first : ByTold A) (next : FilesTold → A → Reading B) → ReadsFor told told' counts counts' first → ReadsFor told told' counts counts' (λ t. first t >>= next t)
   ReadsFor-bind {told} {told'} first next a = record {
     stays = a.stays;
@@ -159,7 +159,7 @@ module _ {A B : Type 0} where
     never_fall = a.never_fall;
   }
 
-  -- a fault of the first step that is passed on
+  -- the fault of the first of two steps, passed on, answers both
   pub HasAnswered-passed : {told told' : FilesTold} {counts counts' : List ℕ → ℕ} (first : ByTold A) (next : FilesTold → A → Reading B) (fault : LoadFault) (result : Result B LoadFault) → IsErrAnd result (λ passed. passed ≡ fault) → (let answer : Result A LoadFault = Err fault in HasAnswered told told' counts counts' first answer) → HasAnswered told told' counts counts' (λ t. first t >>= next t) result
   HasAnswered-passed {told} {told'} {counts} {counts'} first next fault result is a = record {
     answers = Answers-passed told' first next fault result is a.answers;
@@ -167,12 +167,12 @@ module _ {A B : Type 0} where
     source = ReadsFor-bind first next a.source;
   }
 
-  -- what the second step answers behind the first
+  -- what answers the second of two steps, with the first's value, answers both
   pub HasAnswered-next : {before between after : FilesTold} {counts counts' counts'' : List ℕ → ℕ} (first : ByTold A) (value : A) (next : FilesTold → A → Reading B) (result : Result B LoadFault) → (let answer : Result A LoadFault = Ok value in HasAnswered before between counts counts' first answer) → HasAnswered between after counts' counts'' (λ t. next t value) result → HasAnswered before after counts counts'' (λ t. first t >>= next t) result
   HasAnswered-next {before} {between} {after} {counts} {counts'} {counts''} first value next result a b =
       HasAnswered-then {whole = λ t. first t >>= next t} {rest = λ t. next t value} (Follows-bind between first (λ _. Reads value) next a.answers) (ReadsFor-bind first next a.source) b
 
--- a file
+-- if only one file was read, no file was read but those to which the reading of that file comes
 pub ReadsFor-file : {name : List ℕ} {told told' : FilesTold} {counts counts' : List ℕ → ℕ} → ReadsOnly name told told' counts counts' → ReadsFor told told' counts counts' (file_octets name)
 ReadsFor-file {name} {told} {told'} only = record {
   stays = only.stays;
@@ -181,7 +181,7 @@ ReadsFor-file {name} {told} {told'} only = record {
 }
 
 module _ {name : List ℕ} {told told' : FilesTold} {counts counts' : List ℕ → ℕ} where
-  -- a file that was read to its end
+  -- the octets of a file that was read to its end answer the reading of the file
   pub HasAnswered-whole : (octets : List ℕ) → ReadsOnly name told told' counts counts' → told' name ≡ Holds octets → length octets ≤ most_octets → (let answer : Result (List ℕ) LoadFault = Ok octets in HasAnswered told told' counts counts' (file_octets name) answer)
   HasAnswered-whole octets only here short = record {
     answers = Follows-whole told' name octets here short;
@@ -189,7 +189,7 @@ module _ {name : List ℕ} {told told' : FilesTold} {counts counts' : List ℕ �
     source = ReadsFor-file only;
   }
 
-  -- a file that is too long
+  -- the reading of a file that is too long is answered with that fault
   pub HasAnswered-too_long : (fault : LoadFault) → ReadsOnly name told told' counts counts' → IsTooLongOf name fault → IsToldAnd (told' name) (λ octets. most_octets < length octets) → (let answer : Result (List ℕ) LoadFault = Err fault in HasAnswered told told' counts counts' (file_octets name) answer)
   HasAnswered-too_long fault only is long = record {
     answers = Answers-too_long told' name fault is long;
@@ -197,7 +197,7 @@ module _ {name : List ℕ} {told told' : FilesTold} {counts counts' : List ℕ �
     source = ReadsFor-file only;
   }
 
--- a file of which a read failed behind others
+-- the reading of a file of which a read failed, behind others that didn't, is answered with that fault
 pub HasAnswered-broken : {name : List ℕ} {before between after : FilesTold} {counts counts' counts'' : List ℕ → ℕ} (fault : LoadFault) (result : Result (List ℕ) LoadFault) → ReadsOnly name before between counts counts' → ReadsOnly name between after counts' counts'' → IsReadOf name fault → (let answer : Result ℕ LoadFault = Err fault in FailedAt counts' counts'' answer) → IsErrAnd result (λ passed. passed ≡ fault) → HasAnswered before after counts counts'' (file_octets name) result
 HasAnswered-broken fault (Ok value) so_far only broken failed is = absurd is
 HasAnswered-broken {name = name} {after = after} {counts = counts} {counts' = counts'} {counts'' = counts''} fault (Err passed) so_far only broken failed is = record {

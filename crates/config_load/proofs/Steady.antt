@@ -26,7 +26,7 @@ use Rattle.config_load.proofs.Answered.{without-here, without-only}
 
 -- ---- each reading is steady
 
--- a file
+-- the reading of a file is steady
 pub file_is_steady : (name : List ℕ) → IsSteady (file_octets name)
 file_is_steady name told later stays = by (stays name) where
   on : told name ≡ Untold → (is : Told) → later name ≡ is → (file_octets name later ≡ file_octets name told) ⊎ StopsEarly later told (file_octets name told)
@@ -39,12 +39,12 @@ file_is_steady name told later stays = by (stays name) where
   by (inr same) = inl (ap (told_octets name) same)
 
 module _ {A : Type 0} where
-  -- what no file is read for
+  -- a reading that reads no file is steady
   pub known_is_steady : (reading : Reading A) → IsSteady (λ told. reading)
   known_is_steady reading told later stays = inl refl
 
 module _ {A B : Type 0} where
-  -- a step, and the next
+  -- two steady steps, one after the other, are steady
   pub bind_is_steady : (first : ByTold A) (next : FilesTold → A → Reading B) → IsSteady first → ((value : A) → IsSteady (λ told. next told value)) → IsSteady (λ told. first told >>= next told)
   bind_is_steady first next steady each told later stays = by (steady told later stays) where
     on : (read : Reading A) → (read >>= next later ≡ read >>= next told) ⊎ StopsEarly later told (read >>= next told)
@@ -58,7 +58,7 @@ module _ {A B : Type 0} where
     by (inr (name, is, untold, some)) = inr (name, ap (λ read. read >>= next told) is, untold, some)
 
 module _ {A B : Type 0} where
-  -- two readings, one after the other
+  -- two steady readings, one after the other, are steady
   pub both_are_steady : (first : ByTold A) (second : ByTold B) → IsSteady first → IsSteady second → IsSteady (both first second)
   both_are_steady first second steady other = bind_is_steady first (λ told one. second told >>= λ two. Reads (one, two)) steady
       (λ one. bind_is_steady second (λ told two. Reads (one, two)) other (λ two. known_is_steady (Reads (one, two))))
@@ -110,7 +110,7 @@ unfolding metadata
 metadata_are_steady meta =
     bind_is_steady (file_octets meta) (λ told octets. unless_refused of_metadata (metadata_of octets)) (file_is_steady meta) (λ octets. known_is_steady _)
 
--- the configuration of a metadata file
+-- the reading of the configuration of a metadata file is steady
 pub conf_is_steady : (meta : List ℕ) → IsSteady (conf meta)
 unfolding conf
 conf_is_steady meta =
@@ -119,7 +119,7 @@ conf_is_steady meta =
     (λ found. bind_is_steady (with_rows meta 1 found.rows no_rows) (λ told rows. Reads (record { tops = found.tops; servers = rows.servers }))
     (rows_are_steady meta 1 found.rows no_rows) (λ rows. known_is_steady _))
 
--- the same, with the names of files
+-- the reading of the configuration of a metadata file, with the names of its files, is steady
 pub loaded_is_steady : (meta : List ℕ) → IsSteady (loaded meta)
 unfolding loaded
 loaded_is_steady meta =
@@ -143,7 +143,7 @@ StaysTold-both told later file stays name =
     [ true ↦ inl refl | false ↦ stays name ]
 
 module _ {A : Type 0} {reading : ByTold A} (steady : IsSteady reading) where
-  -- what was read, or refused, or missed
+  -- what a steady reading reads it reads also by what is told later
   pub reads_later : (told later : FilesTold) (value : A) → StaysTold told later → reading told ≡ Reads value → reading later ≡ Reads value
   reads_later told later value stays is = by (steady told later stays) where
     by : (reading later ≡ reading told) ⊎ StopsEarly later told (reading told) → reading later ≡ Reads value
@@ -157,7 +157,7 @@ module _ {A : Type 0} {reading : ByTold A} (steady : IsSteady reading) where
     by (inl same) = same ∙ is
     by (inr (name, stopped, untold, some)) = let no : Unknown name ≡ Refuses fault = sym stopped ∙ is in absurd cc
 
-  -- what a call answered
+  -- what a call answers of a steady reading is its answer also by what is told later
   pub Gives-later : (told later : FilesTold) (result : Result A LoadFault) → StaysTold told later → Gives (reading told) result → Gives (reading later) result
   Gives-later told later (Ok value) stays gives = reads_later told later value stays gives
   Gives-later told later (Err (faults.Read file)) stays gives = tt
@@ -168,7 +168,7 @@ module _ {A : Type 0} {reading : ByTold A} (steady : IsSteady reading) where
   Gives-later told later (Err (faults.Rule file line cause)) stays gives = refuses_later told later (faults.Rule file line cause) stays gives
   Gives-later told later (Err (faults.ZoneTwice row)) stays gives = refuses_later told later (faults.ZoneTwice row) stays gives
 
-  -- a file to which the reading comes
+  -- a steady reading comes to a file also by what is told later
   pub comes_later : (told later : FilesTold) (file : List ℕ) → StaysTold told later → ComesToFile reading told file → ComesToFile reading later file
   comes_later told later file stays comes = by (steady (without file told) (without file later) (StaysTold-both told later file stays)) where
     by : (reading (without file later) ≡ reading (without file told)) ⊎ StopsEarly (without file later) (without file told) (reading (without file told)) → ComesToFile reading later file
@@ -190,11 +190,11 @@ module _ {A : Type 0} {reading : ByTold A} (steady : IsSteady reading) where
 -- ---- two readings, one after the other
 
 module _ {A B : Type 0} (first : ByTold A) (second : ByTold B) where
-  -- a file to which the first comes
+  -- two readings, one after the other, come to each file to which the first comes
   pub comes_first : (told : FilesTold) (file : List ℕ) → ComesToFile first told file → ComesToFile (both first second) told file
   comes_first told file comes = ap (λ read. read >>= λ one. second (without file told) >>= λ other. Reads (one, other)) comes
 
-  -- a file to which the second comes, where the first was read
+  -- two readings, one after the other, come to each file to which the second comes, if the first was read
   pub comes_second : IsSteady first → (told : FilesTold) (value : A) (file : List ℕ) → first told ≡ Reads value → ComesToFile second told file → ComesToFile (both first second) told file
   comes_second steady told value file is comes = by (gives_without steady told file) where
     by : (first (without file told) ≡ first told) ⊎ ComesToFile first told file → ComesToFile (both first second) told file
@@ -203,7 +203,7 @@ module _ {A B : Type 0} (first : ByTold A) (second : ByTold B) where
         ∙ ap (λ read. read >>= λ other. Reads (value, other)) comes
     by (inr earlier) = comes_first told file earlier
 
-  -- no other file is opened than those to which they come
+  -- two readings, one after the other, open no file but those to which they come
   pub opens_both : IsSteady first → (before between after : FilesTold) (value : A) → StaysTold between after → first between ≡ Reads value
       → OpensNoOther first before between → OpensNoOther second between after → OpensNoOther (both first second) before after
   opens_both steady before between after value stays is a b file = by (a file) (b file) where
@@ -212,7 +212,7 @@ module _ {A B : Type 0} (first : ByTold A) (second : ByTold B) where
     by (inr comes) (inl same) = inr (comes_first after file (comes_later steady between after file stays comes))
     by earlier (inr comes) = inr (comes_second steady after value file (reads_later steady between after value stays is) comes)
 
-  -- where the first gives nothing, no other file is opened than those to which it comes
+  -- if the first of two readings gives nothing, no file is opened but those to which it comes
   pub opens_first : (before after : FilesTold) → OpensNoOther first before after → OpensNoOther (both first second) before after
   opens_first before after a file = by (a file) where
     by : (after file ≡ before file) ⊎ ComesToFile first after file → (after file ≡ before file) ⊎ ComesToFile (both first second) after file

@@ -90,7 +90,7 @@ given-fault number name zone servers fault is = by_test (has_zone name zone.orig
   by_test true is = let e : ZoneTwice number ≡ fault = cc in sym e
   by_test false is = absurd cc
 
--- what a zone's server answers
+-- whether a zone is given to its server, or why not, is answered
 pub Answers-given : (told : FilesTold) (number : ℕ) (name : Labels) (zone : Zone) (servers : List Server) (result : Result (List Server) LoadFault) → AnswersOr NoMemory result (given number name zone servers) → Answers told (λ _. unless_refused (λ fault. fault) (given number name zone servers)) result
 Answers-given told number name zone servers (Ok value) answered =
     Follows-same told (λ _. unless_refused (λ fault. fault) (given number name zone servers)) (λ _. Reads value) (λ other. ap (unless_refused (λ fault. fault)) answered)
@@ -103,7 +103,7 @@ Answers-given told number name zone servers (Err fault) (inr is) =
 
 -- Rows.
 
--- where there is a row more
+-- the rows that are left begin with the next row
 pub rest-more : (all : List MetaRow) (i : ℕ) (row : MetaRow) → i < length all → row ≡ get_or all i row → drop i all ≡ row ∷ drop (i + 1) all
 rest-more all i row below is = drop-cons all i row below ∙ (λ j. sym is j ∷ drop (sym (add-one i) j) all)
 

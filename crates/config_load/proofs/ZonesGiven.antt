@@ -37,7 +37,7 @@ held_has servers name origin zone is = by (find (λ (server : Server). name_eq s
       (both (turned name server.name ∙ here.1)
       (any_has (λ (zone : Zone). name_eq origin zone.origin) server.zones zone there.0 (turned origin zone.origin ∙ there.1)))
 
--- so where it hasn't the zone, none is found
+-- if a server of the name hasn't the zone, none is found
 pub none_held : (servers : List Server) (name origin : Labels) → has_zone name origin servers ≡ false → held_in servers name origin ≡ None
 none_held servers name origin none = by (held_in servers name origin) refl where
   by : (found : Option Zone) → held_in servers name origin ≡ found → found ≡ None

@@ -9,7 +9,7 @@ use Rattle.config_load.specs.declared.fault.LoadFault.TheVariants.{Read, NoMemor
 abbrev pub ByTold : Type 0 → Type 0
 ByTold A = FilesTold → Reading A
 
--- the other tells nothing of a name of which something is told, or the same
+-- for each name of which something is told, the other tells the same or nothing
 abbrev pub TellsNoOther : FilesTold → FilesTold → Type 0
 TellsNoOther told other = (name : List ℕ) → (told name ≡ Untold) ⊎ ((other name ≡ told name) ⊎ (other name ≡ Untold))
 

@@ -2,7 +2,7 @@
 use Rattle.std.specs.Prelude.{ℕ, nat_eq, List, [], ◌∷◌, ◌++◌, codes, if◌then◌else◌}
 use Rattle.std.specs.List.{list_any, starts_with}
 
--- up to and including the last slash
+-- the front of a file's name up to and including the last slash
 abbrev pub directory_of : List ℕ → List ℕ
 directory_of [] = []
 directory_of (octet ∷ octets) =

@@ -35,7 +35,7 @@ line_told (Rule file line cause) = line
 line_told (ZoneTwice row) = row
 line_told NoMemory = 0
 
--- the code
+-- the code of a fault in reading a configuration, the word that is printed for it
 abbrev pub code_of : LoadFault → List ℕ
 code_of (Read file) = codes "read-failed"
 code_of (TooLong file) = codes "too-long"

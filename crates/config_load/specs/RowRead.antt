@@ -8,15 +8,15 @@ use Rattle.config_load.specs.declared.fault.LoadFault.{LoadFault}
 use Rattle.config_load.specs.declared.rows.ReadRows.{ReadRows}
 use Rattle.config_load.specs.declared.zone.ReadZone.{ReadZone}
 
--- with one more, where the servers are these
+-- the rows with one more whose zone was read, if these are the servers then
 abbrev pub with_servers : Labels → ReadZone → ReadRows → List Server → ReadRows
 with_servers server read rows servers = record { left = read.left; servers = servers; rows = rows.rows ++ row_files server read ∷ [] }
 
--- with one more, by what its server is given
+-- the rows with one more whose zone was read, or the fault by which its server wasn't given the zone
 abbrev pub if_given : Labels → ReadZone → ReadRows → Result (List Server) LoadFault → Result ReadRows LoadFault
 if_given server read rows (Ok servers) = Ok (with_servers server read rows servers)
 if_given server read rows (Err fault) = Err fault
 
--- with one more, which has this number
+-- the rows with one more whose zone was read, which has this number, or the fault of a zone that its server already has
 abbrev pub row_read : ℕ → Labels → ReadZone → ReadRows → Result ReadRows LoadFault
 row_read number server read rows = if_given server read rows (given number server read.zone rows.servers)

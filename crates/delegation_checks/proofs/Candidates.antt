@@ -26,7 +26,7 @@ abbrev pub behind_faults : Deps → Hop → Leaf → List Fault
 behind_faults deps (Refer cut) leaf = leaf_faults deps cut leaf
 behind_faults deps (Rewrite place by_dname to) leaf = []
 
--- those of a branch
+-- the faults of a branch: those of its hop, and of its end behind a hop
 abbrev pub branch_faults : Config → Deps → Branch → List Fault
 branch_faults config deps (Go hop to) = hop_faults config deps hop
 branch_faults config deps (End None leaf) = []

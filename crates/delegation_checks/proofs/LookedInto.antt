@@ -43,7 +43,7 @@ module _ (config : Config) (deps : Deps) where
         covers = λ now fault has has_fault. absurd (none_in_nil now has);
       }
 
-  -- all of them
+  -- if as many referrals were looked into as there are, the faults collected are those of all
   pub all_met : (met : List Met) (place : ℕ) (seen : List Seen) → length met ≤ place → AreSoFar met place seen → AreOfReferrals config deps (map is_met met) seen
   all_met met place seen past so_far =
       record {

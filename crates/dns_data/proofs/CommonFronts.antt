@@ -7,7 +7,7 @@ use Rattle.dns_data.specs.Name.{Labels}
 use Rattle.dns_data.proofs.NameFronts.{Begins}
 use Rattle.dns_data.proofs.Names.{label_eq_decides}
 
--- of the labels with which two names begin the first so many are the same
+-- two names have the same first labels, as many as the length of their common front says
 pub common_front : (count : ℕ) (a b : Labels) → count ≤ common_prefix_len label_eq a b → take count a ≡ take count b
 common_front zero a b few = refl
 common_front (suc count) [] b few = absurd (omega arith)
@@ -26,7 +26,7 @@ shared_front [] x y = omega arith
 shared_front (label ∷ above) x y =
     omega (arith, shared_front above x y, ap (λ (t : Bool). cond t (1 + common_prefix_len label_eq (above ++ x) (above ++ y)) 0) ((label_eq_decides label label).1 refl))
 
--- so do two names that it begins
+-- the common front of two names is at least as long as a name that begins both
 pub both_begin : (above a b : Labels) → Begins above a → Begins above b → length above ≤ common_prefix_len label_eq a b
 both_begin above a b (x, e) (y, f) =
     subst (λ (n : Labels). length above ≤ common_prefix_len label_eq n b) e

@@ -58,7 +58,8 @@ more_of a b count x y c xs ys h within =
     one_more_label : (l : List ℕ) (u v : Labels) → both_begin (l ∷ u) (l ∷ v) ≡ 1 + both_begin u v
     one_more_label l u v = ap (λ (t : Bool). cond t (1 + both_begin u v) 0) ((label_eq_decides l l).1 refl)
 
--- where the octets that both begin with go past the first label, both have this label, and go on behind it
+-- if two names begin with the same octets past the first label, both have this label, and the rest is compared behind
+-- it
 pub more : (a b : Labels) (count c : ℕ) (xs ys : List ℕ) → IsPast a b count xs ys c → get_or xs 0 0 < c → IsPast a b (count + 1) (drop (get_or xs 0 0 + 1) xs) (drop (get_or xs 0 0 + 1) ys) (c - (get_or xs 0 0 + 1))
 more a b count c [] ys h within = absurd (omega (arith, h.begin))
 more a b count c (x ∷ xs) [] h within = absurd (omega (arith, h.begin))
@@ -91,8 +92,8 @@ unlike l m u v n = (decided_first (label_cmp l m) (name_cmp u v) (λ e. n (same_
   by true e = absurd (n ((label_eq_decides l m).0 e))
   by false e = refl
 
--- where both begin with the length of a label but not with the whole label, the first octet that differs is in the first
--- label of both
+-- if two names begin with the same length of a label but not with the whole label, their first octet that differs is in
+-- the first label of both
 pub differs_in : (xs ys : List ℕ) (c : ℕ) → EncodesName xs → EncodesName ys → c ≡ common xs ys → 0 < c → c ≤ get_or xs 0 0 → DiffersIn xs ys c
 differs_in [] ys c h k e some within = absurd (omega (arith, e))
 differs_in (x ∷ xs) [] c h k e some within = absurd (omega (arith, e))
@@ -132,22 +133,22 @@ none_of [] b e = refl
 none_of (l ∷ a) [] e = refl
 none_of (l ∷ a) (m ∷ b) e = (unlike l m a b (apart_from l m a b e)).1
 
--- where no octet is the same no label is
+-- names that begin with no common octet begin with no common label
 pub none_begin : (xs ys : List ℕ) → EncodesName xs → EncodesName ys → common xs ys ≡ 0 → both_begin (labels_of xs) (labels_of ys) ≡ 0
 none_begin xs ys h k e = none_of (labels_of xs) (labels_of ys) ((λ i. common (h.same i) (k.same i)) ∙ e)
 
--- and the first labels decide
+-- the first labels decide the order of names that begin with no common octet
 pub first_decide : (xs ys l m : List ℕ) (u v : Labels) → EncodesName xs → EncodesName ys → common xs ys ≡ 0 → labels_of xs ≡ l ∷ u → labels_of ys ≡ m ∷ v
     → label_cmp l m ≡ name_cmp (labels_of xs) (labels_of ys)
 first_decide xs ys l m u v h k e is other =
     let none : common (encoded (l ∷ u)) (encoded (m ∷ v)) ≡ 0 = (λ i. common (encoded (sym is i)) (encoded (sym other i))) ∙ (λ i. common (h.same i) (k.same i)) ∙ e in
     (unlike l m u v (apart_from l m u v none)).0 ∙ (λ i. name_cmp (sym is i) (sym other i))
 
--- of the labels of a name no more are passed over than it has
+-- no more labels of a name are passed over than it has
 pub few_passed : (a b : Labels) (count c : ℕ) (xs ys : List ℕ) → IsPast a b count xs ys c → count ≤ length a
 few_passed a b count c xs ys h = omega (arith, h.passed, common_prefix_len-le label_eq a b)
 
--- in the end no label is left that both begin with
+-- if the first octet that differs is in the next label, no further label is common
 pub past_end : (a b : Labels) (count c : ℕ) (xs ys : List ℕ) → IsPast a b count xs ys c → (0 < c → c ≤ get_or xs 0 0) → both_begin (labels_of xs) (labels_of ys) ≡ 0
 past_end a b count zero xs ys h within = none_begin xs ys h.left h.right (sym h.begin)
 past_end a b count (suc c) xs ys h within = (differs_in xs ys (suc c) h.left h.right h.begin (omega arith) (within (omega arith))).none

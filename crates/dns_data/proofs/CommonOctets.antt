@@ -21,7 +21,7 @@ use Rattle.dns_data.proofs.Searches.{same_truth}
 abbrev pub common : List ℕ → List ℕ → ℕ
 common xs ys = common_prefix_len nat_eq xs ys
 
--- what both begin with, and what is left behind it
+-- two lists with so many common octets in front are the same there, and the others are compared behind them
 pub common_split : (n : ℕ) (xs ys : List ℕ) → n ≤ common xs ys → (common xs ys ≡ n + common (drop n xs) (drop n ys)) × (take n xs ≡ take n ys)
 common_split zero xs ys h = (omega arith, refl)
 common_split (suc n) [] ys h = absurd (omega arith)
@@ -35,7 +35,7 @@ common_split (suc n) (x ∷ xs) (y ∷ ys) h = by (nat_eq x y) refl h (common_sp
       (omega (arith, both.0), ap (λ (l : List ℕ). x ∷ l) both.1 ∙ ap (λ (o : ℕ). o ∷ take n ys) (eqb-true x y e))
   by false e h rest = absurd (omega arith)
 
--- of the first so many octets
+-- the first so many octets of two lists have in common what the lists have in common, up to so many
 pub common_take : (n : ℕ) (xs ys : List ℕ) → common (take n xs) (take n ys) ≡ min n (common xs ys)
 common_take zero xs ys = omega arith
 common_take (suc n) [] ys = omega arith
@@ -67,7 +67,7 @@ next_stand x y = by (nat_cmp x y) refl where
   by Equal h = let e : x ≡ y = ranked x y Equal h in sym (same_stands (suc x) (suc y) _ refl (omega arith))
   by Greater h = let g : y < x = ranked x y Greater h in sym (greater_stands (suc x) (suc y) _ refl (omega arith))
 
--- an order that decides
+-- a comparison of different numbers decides before whatever is compared behind them
 pub decided : (x y : ℕ) (r after : Ordering) → r ≡ nat_cmp x y → (x ≡ y → ⊥) → ordering_then r after ≡ r
 decided x y Less after h n = refl
 decided x y Equal after h n = absurd (n (ranked x y Equal h))
@@ -92,7 +92,7 @@ common_decides (x ∷ xs) (y ∷ ys) h k = by (nat_eq x y) refl h k (common_deci
       (ap (λ (o : Ordering). ordering_then o (slice_cmp nat_cmp xs ys)) (same_stands x y (nat_cmp x y) refl (eqb-true x y e)) ∙ both.0, both.1)
   by false e h k rest = (decided x y (nat_cmp x y) _ refl (eqb-false x y e), eqb-false x y e)
 
--- where one ends the lengths do
+-- if one list is a front of the other, their lengths decide the order
 pub common_ends : (xs ys : List ℕ) → (common xs ys < length xs → common xs ys < length ys → ⊥) → slice_cmp nat_cmp xs ys ≡ nat_cmp (length xs) (length ys)
 common_ends [] [] h = refl
 common_ends [] (y ∷ ys) h = sym (less_stands 0 (suc (length ys)) _ refl (omega arith))
@@ -224,7 +224,7 @@ small_drop (suc n) (x ∷ xs) h = small_drop n xs h.1
 small_part : (n : ℕ) (xs : List ℕ) (at : ℕ) → ((i : ℕ) → get_or xs i 0 < 256) → Small (take n (drop at xs))
 small_part n xs at h = small_take n (drop at xs) (small_drop at xs (small_all xs h))
 
--- the leading zeros of the unlike bits of eight octets of each
+-- the leading zeros of the unlike bits of eight octets of each list tell how many of these are common
 pub eight_common : (xs ys : List ℕ) (at p q : ℕ) → at + 8 ≤ length xs → at + 8 ≤ length ys → ((i : ℕ) → get_or xs i 0 < 256) → ((i : ℕ) → get_or ys i 0 < 256)
     → p ≡ written_number (take 8 (drop at xs)) → q ≡ written_number (take 8 (drop at ys)) → count_leading_zeros 64 (bit_xor p q) / 8 ≡ common (take 8 (drop at xs)) (take 8 (drop at ys))
 eight_common xs ys at p q h k small few e f =
@@ -236,7 +236,7 @@ eight_common xs ys at p q h k small few e f =
     length_of_part : (l : List ℕ) → at + 8 ≤ length l → length (take 8 (drop at l)) ≡ 8
     length_of_part l room = length-take-le 8 (drop at l) (omega (arith, length-drop at l))
 
--- what the eight octets from a place on tell, where both begin with those before it
+-- how many of the next eight octets of two lists are common says how many are common from the start
 pub eight_tell : (xs ys : List ℕ) (at n : ℕ) → at ≤ common xs ys → n ≡ common (take 8 (drop at xs)) (take 8 (drop at ys))
     → (n ≤ 8) × (n < 8 → common xs ys ≡ at + n) × (at + n ≤ common xs ys)
 eight_tell xs ys at n h e =
@@ -244,7 +244,7 @@ eight_tell xs ys at n h e =
     let part = common_take 8 (drop at xs) (drop at ys) in
     (omega (arith, e, part), λ few. omega (arith, e, part, split), omega (arith, e, part, split))
 
--- those of the last eight octets of the shorter one
+-- how many of the last eight octets of the shorter list are common says how many are common from the start
 pub last_tell : (xs ys : List ℕ) (at n : ℕ) → at ≤ common xs ys → at + 8 ≡ min (length xs) (length ys) → n ≡ common (take 8 (drop at xs)) (take 8 (drop at ys))
     → common xs ys ≡ at + n
 last_tell xs ys at n h room e =
@@ -252,7 +252,7 @@ last_tell xs ys at n h room e =
     let part = common_take 8 (drop at xs) (drop at ys) in
     omega (arith, e, part, split, common_prefix_len-le nat_eq xs ys)
 
--- one octet more, or the first that differs
+-- if the octets behind some common ones are the same too, one octet more is common
 pub one_more : (xs ys : List ℕ) (n : ℕ) → n ≤ common xs ys → n < length xs → n < length ys → get_or xs n 0 ≡ get_or ys n 0 → n + 1 ≤ common xs ys
 one_more xs ys n h k l e = omega (arith, (common_split n xs ys h).0, common_prefix_len-drop_yes nat_eq xs ys n 0 0 k l (eq-eqb _ _ e))
 
@@ -261,12 +261,12 @@ one_more xs ys n h k l e = omega (arith, (common_split n xs ys h).0, common_pref
 pub no_more : (xs ys : List ℕ) (n : ℕ) → n ≤ common xs ys → n < length xs → n < length ys → (get_or xs n 0 ≡ get_or ys n 0 → ⊥) → n ≡ common xs ys
 no_more xs ys n h k l e = omega (arith, (common_split n xs ys h).0, common_prefix_len-drop_no nat_eq xs ys n 0 0 k l (ne_eqb _ _ e))
 
--- the order, by how many octets both begin with
+-- the first octets that differ decide the order of two lists
 pub order_inside : (xs ys : List ℕ) (n : ℕ) (r : Ordering) → n ≡ common xs ys → n < length xs → n < length ys → r ≡ nat_cmp (get_or xs n 0) (get_or ys n 0) → r ≡ slice_cmp nat_cmp xs ys
 order_inside xs ys n r e h k is =
     is ∙ ap (λ (i : ℕ). nat_cmp (get_or xs i 0) (get_or ys i 0)) e ∙ sym (common_decides xs ys (omega arith) (omega arith)).0
 
--- where one is a front of the other, their order is that of their lengths
+-- if one list is a front of the other, the order of the lists is that of their lengths
 pub order_ends : (xs ys : List ℕ) (n : ℕ) (r : Ordering) → n ≡ common xs ys → min (length xs) (length ys) ≤ n → r ≡ nat_cmp (length xs) (length ys) → r ≡ slice_cmp nat_cmp xs ys
 order_ends xs ys n r e h is = is ∙ sym (common_ends xs ys (λ k l. absurd (omega arith)))
 
@@ -275,7 +275,7 @@ common_whole : (xs : List ℕ) → common xs xs ≡ length xs
 common_whole [] = refl
 common_whole (x ∷ xs) = ap (λ (b : Bool). cond b (1 + common xs xs) 0) (eq-eqb x x refl) ∙ omega (arith, common_whole xs)
 
--- lists of one length are the same exactly where both begin with as many octets as they have
+-- lists of one length are the same exactly if all their octets are common
 pub same_tell : (xs ys : List ℕ) (n : ℕ) → n ≡ common xs ys → length xs ≡ length ys → nat_eq n (length xs) ≡ pointwise nat_eq xs ys
 same_tell xs ys n e lengths = same_truth _ _
     (λ all. let most : length xs ≤ common xs ys = omega (arith, e, eqb-true n (length xs) all) in

@@ -41,7 +41,7 @@ octet_lacks octet = by (is_special octet) (nat_le 33 octet && nat_le octet 126) 
 label_lacks : (label : List ℕ) → Lacks 32 (label_text label)
 label_lacks label = lacks-append 32 (flat_map octet_text label) (46 ∷ []) (lacks-flat_map 32 octet_text label octet_lacks) (refl, tt)
 
--- no name's text has one
+-- no name's text has a space
 pub name_lacks : (name : Labels) → Lacks 32 (name_text name)
 name_lacks name = by (length name == 0) where
   by : (root : Bool) → Lacks 32 (if root then codes "." else flat_map label_text (reverse name))
@@ -92,7 +92,7 @@ groups_length (suc k) [] n = absurd (omega arith)
 groups_length (suc k) (x ∷ []) n = absurd (omega arith)
 groups_length (suc k) (high ∷ low ∷ rest) n = ap suc (groups_length k rest (omega arith))
 
--- addresses of one length with the same groups are one
+-- addresses of the same length with the same groups are equal
 pub groups_same : (k : ℕ) (a b : List ℕ) → length a ≡ 2 * k → length b ≡ 2 * k → AreOctets a → AreOctets b → groups a ≡ groups b → a ≡ b
 groups_same zero [] [] m n p q e = refl
 groups_same zero (x ∷ a) b m n p q e = absurd (omega arith)
@@ -188,7 +188,7 @@ rest_same (a ∷ xs) (b ∷ ys) p q e =
     let others = rest_same xs ys p.1 q.1 first.1 in
     cc (first.0, others)
 
--- lists of strings with one text, each string in quotes and a space between two, are one
+-- lists of strings with the same text, each string in quotes and a space between two, are equal
 pub texts_same : (xs ys : List (List ℕ)) → AllByRecursion AreOctets xs → AllByRecursion AreOctets ys → separated (codes " ") (map quoted xs) ≡ separated (codes " ") (map quoted ys) → xs ≡ ys
 unfolding rest_text
 texts_same [] [] p q e = refl

@@ -5,7 +5,7 @@ use Rattle.std.specs.List.{remove}
 use Rattle.std.proofs.lemmas.List.Sorted.{IsPermutation-remove, Contains-permutation, length_permutation}
 use Rattle.dns_data.proofs.Membership.{has_first, has_later, first_or_later, pairs_first, pairs_rest}
 
--- such a list is no longer than one that has all its items
+-- a list of different items is no longer than one that has all its items
 pub fits_among : {X : Type 0} (xs ys : List X) → AllPairs (λ a b. a ≢ b) xs → ((x : X) → Contains xs x → Contains ys x)
     → length xs ≤ length ys
 fits_among [] ys differ has = omega arith

@@ -16,17 +16,17 @@ pub digits_after-ge : (value : ℕ) (text : List ℕ) → value ≤ digits_after
 digits_after-ge value [] = omega arith
 digits_after-ge value (c ∷ cs) = let more = digits_after-ge (value * 10 + (c - 48)) cs in omega arith
 
--- an octet that is a digit is part of the number
+-- a digit is part of the number that octets write
 pub number_from-digit : (most value c : ℕ) (cs : List ℕ) → is_digit c ≡ true → number_from most value (c ∷ cs) ≡ number_from most (value * 10 + (c - 48)) cs
 number_from-digit most value c cs h =
     ap (λ (b : Bool). cond ((b && list_all is_digit cs) && nat_le (digits_after (value * 10 + (c - 48)) cs) most) (Some (digits_after (value * 10 + (c - 48)) cs)) None) h
 
--- any other octet ends it
+-- octets with one that isn't a digit write no number
 pub number_from-other : (most value c : ℕ) (cs : List ℕ) → is_digit c ≡ false → number_from most value (c ∷ cs) ≡ None
 number_from-other most value c cs h =
     ap (λ (b : Bool). cond ((b && list_all is_digit cs) && nat_le (digits_after (value * 10 + (c - 48)) cs) most) (Some (digits_after (value * 10 + (c - 48)) cs)) None) h
 
--- a value that is too large stays so
+-- if the value so far is above the limit, the octets write no number
 pub number_from-large : (most value : ℕ) (text : List ℕ) → most < value → number_from most value text ≡ None
 number_from-large most value text h =
     let ge = digits_after-ge value text in
@@ -48,7 +48,7 @@ number_from-stop most value c cs h =
       | inr no_digit ↦ number_from-other most value c cs no_digit
     ]
 
--- the octet at a place
+-- octets from a place on are the octet there and those behind it
 pub number_from-at : (most value : ℕ) (text : List ℕ) (i : ℕ) → i < length text → number_from most value (drop i text) ≡ number_from most value (get_or text i 0 ∷ drop (i + 1) text)
 number_from-at most value text i h = ap (number_from most value) (drop-cons text i 0 h ∙ ap (λ (k : ℕ). get_or text i 0 ∷ drop k text) (sym (add-one i)))
 

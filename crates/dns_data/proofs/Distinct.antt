@@ -26,8 +26,8 @@ module _ {A : Type 0} (eq : A → A → Bool) (item : A) where
   by-last kept true = append-nil kept
   by-last kept false = refl
 
-  -- of a list with an item more, the first of equal items are those of the list, and the item behind them unless an equal
-  -- one stands before it
+  -- with one item more, the distinct items are those before, and the item behind them unless an equal one stands before
+  -- it
   pub distinct-last : (before : List A) → distinct eq (before ++ item ∷ []) ≡ cond (list_any (eq item) before) (distinct eq before) (distinct eq before ++ item ∷ [])
   distinct-last before = distinct_behind-last [] before ∙ by-last (distinct eq before) (list_any (eq item) before)
 
@@ -61,7 +61,7 @@ nothing : {A : Type 0} (items : List A) → chosen items [] ≡ []
 nothing [] = refl
 nothing (item ∷ items) = refl
 
--- nor behind the last answer
+-- behind the last answer no item is chosen
 pub chosen-end : {A : Type 0} (items kept : List A) (tests : List Bool) (i : ℕ) → length tests ≤ i → kept ++ chosen items (drop i tests) ≡ kept
 chosen-end items kept tests i past =
     ap (λ rest. kept ++ rest) (ap (chosen items) (drop_of_length-le tests past) ∙ nothing items) ∙ append-nil kept

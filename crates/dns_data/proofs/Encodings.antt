@@ -15,7 +15,7 @@ use Rattle.dns_data.proofs.Names.{name_append, is_prefix_means, name_eq_decides,
 use Rattle.dns_data.proofs.Searches.{same_truth}
 use Rattle.dns_data.specs.Encoding.{encoded, labels_in, labels_of, EncodesName}
 
--- encodings joined
+-- the octets of labels in a row are those of the first labels and then those of the others
 pub encoded_append : (a b : Labels) → encoded (a ++ b) ≡ encoded a ++ encoded b
 unfolding encoded
 encoded_append [] b = refl
@@ -70,7 +70,7 @@ encoded_front (x ∷ a) (y ∷ b) rest e =
     let (below, found) = encoded_front a b rest after in
     (below, ap (λ (l : Labels). x ∷ l) found ∙ ap (λ (l : List ℕ). l ∷ b) tops)
 
--- octets begin others exactly where the labels do
+-- the octets of one name begin those of another exactly if its labels begin the other's
 pub octets_begin : (a b : List ℕ) → EncodesName a → EncodesName b → starts_with nat_eq b a ≡ is_prefix (labels_of a) (labels_of b)
 octets_begin a b h k = same_truth _ _
     (λ begins. let front : a ≡ take (length a) b = (bytes_decides a (take (length a) b)).0 begins in
@@ -150,7 +150,7 @@ join_size a b l m h k e f =
     let right : wire_octets m ≡ length b + 1 = ap wire_octets (sym f) ∙ sym (flat_length b k).0 in
     omega (arith, left, right, sum_by-append (λ (xs : List ℕ). length xs + 1) l m)
 
--- a label behind the octets of a name
+-- the octets are those of a name with a label below it
 pub record IsPush (octets : List ℕ) (name : Labels) (x : List ℕ) : Type 0 where
   pub size : wire_octets (name ++ x ∷ []) ≡ length octets + length x + 2
   pub same : wire_octets (name ++ x ∷ []) ≤ 255 → labels_of (octets ++ length x ∷ x) ≡ name ++ x ∷ []
@@ -173,13 +173,13 @@ flat_push octets name x h e label =
       flat = λ short. subst EncodesName (sym whole) (flat_of (name ++ x ∷ []) (name_append name (x ∷ []) named (label, tt) short));
     }
 
--- a label's length and its octets, as they are put
+-- a label's length and its octets, as they are put behind each other, are the label's encoding
 pub label_put : (out label ys : List ℕ) (n : ℕ) → length out ≡ length label + 1 → ys ≡ label → put_mid 1 (length (slice_set out 0 n) - 1) (slice_set out 0 n) ys ≡ n ∷ label
 label_put [] label ys n room e = absurd (omega arith)
 label_put (o ∷ os) label ys n room e =
     ap (λ (r : List ℕ). n ∷ r) (ap (λ (r : List ℕ). ys ++ r) (drop_all _ os (omega arith)) ∙ append-nil ys ∙ e)
 
--- octets are the same exactly where the labels are
+-- the octets of two names are the same exactly if the names are
 pub octets_same : (a b : List ℕ) → EncodesName a → EncodesName b → pointwise nat_eq a b ≡ name_eq (labels_of a) (labels_of b)
 octets_same a b h k = same_truth _ _
     (λ same. (name_eq_decides (labels_of a) (labels_of b)).1 (ap labels_of ((bytes_decides a b).0 same)))
@@ -189,7 +189,7 @@ octets_same a b h k = same_truth _ _
 pub few_labels : (octets : List ℕ) → EncodesName octets → length (labels_of octets) ≤ 127
 few_labels octets h = omega (arith, two_octets_each (labels_of octets) h.name.labels, h.name.short)
 
--- of a name's labels so many were passed over, which take so many octets
+-- so many of a name's labels were passed over, which take so many octets, and these are left
 pub record IsPassed (whole rest : Labels) (count passed : ℕ) : Type 0 where
   pub left : rest ≡ drop count whole
   pub octets : passed ≡ length (encoded (take count whole))
@@ -237,7 +237,7 @@ front_of octets whole rest count passed h e p =
       labels = ap labels_of front ∙ decodes start ∙ ap (take count) e;
     }
 
--- where none is left all were passed over
+-- if no label of a name is left, all were passed over
 pub all_passed : (whole rest : Labels) (count passed most : ℕ) → IsPassed whole rest count passed → rest ≡ [] → count ≤ most → take most whole ≡ whole
 all_passed whole rest count passed most p none within =
     take_all most whole (omega (arith, ap length (sym p.left ∙ none), length-drop count whole))

@@ -91,6 +91,6 @@ data_itself (Dname a) = strings_itself a
 data_itself (Caa flags tag value) = rw (number_itself flags, octets_itself tag, octets_itself value) refl
 data_itself (Other word tokens) = rw (octets_itself word, strings_itself tokens) refl
 
--- data are equal exactly where they are one
+-- the test of equal data passes exactly if the data are the same
 pub equal_is_same : (a b : Rdata) → (data_eq a b ≡ true) ↔ (a ≡ b)
 equal_is_same a b = (same_data a b, λ e. subst (λ (other : Rdata). data_eq a other ≡ true) e (data_itself a))

@@ -8,7 +8,7 @@ use Rattle.dns_data.specs.declared.rdata.Rr.{Rr}
 use Rattle.dns_data.proofs.EqualData.{equal_is_same}
 use Rattle.dns_data.proofs.Names.{name_eq_decides}
 
--- records are identical exactly where their owners are the same and their data are
+-- the test of identical records passes exactly if their owners are the same and their data are
 pub identical_by_parts : (a b : Rr) → (is_identical a b ≡ true) ↔ ((a.owner ≡ b.owner) × (a.rdata ≡ b.rdata))
 identical_by_parts a b = (
   λ e.

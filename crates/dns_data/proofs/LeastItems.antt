@@ -11,7 +11,7 @@ pub record IsLeastItem {X : Type 0} (R : X → X → Ordering) (test : X → Boo
   pub none_before : (x : X) → Contains xs x → test x ≡ true → R x least ≡ Less → ⊥
 
 module _ {X : Type 0} (R : X → X → Ordering) (o : IsTotalOrder R) (test : X → Bool) where
-  -- a list has a least item that passes, unless none does
+  -- a list has a least item that passes the test, or none of its items passes
   pub least_or_none : (xs : List X) → ((x : X) → Contains xs x → test x ≡ false) ⊎ ((least : X) × IsLeastItem R test xs least)
   least_or_none [] = inl (λ x has. absurd (none_in_nil x has))
   least_or_none (first ∷ xs) = by (test first) refl (least_or_none xs) where

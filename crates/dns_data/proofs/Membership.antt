@@ -9,15 +9,15 @@ module _ {X : Type 0} where
   pub none_in_nil : (x : X) → Contains [] x → ⊥
   none_in_nil x (k, below, is) = omega arith
 
-  -- the first item
+  -- a list has its first item
   pub has_first : (x : X) (xs : List X) → Contains (x ∷ xs) x
   has_first x xs = (0, omega arith, refl)
 
-  -- an item behind the first
+  -- a list has each item behind its first one
   pub has_later : (y : X) (xs : List X) (x : X) → Contains xs x → Contains (y ∷ xs) x
   has_later y xs x has = Contains-append_right (y ∷ []) xs x has
 
-  -- an item is the first or behind it
+  -- an item of a list is the first or one behind it
   pub first_or_later : (y : X) (xs : List X) (x : X) → Contains (y ∷ xs) x → (y ≡ x) ⊎ Contains xs x
   first_or_later y xs x (k, below, is) = by k below is where
     by : (k : ℕ) → k < length (y ∷ xs) → get_or (y ∷ xs) k x ≡ x → (y ≡ x) ⊎ Contains xs x
@@ -29,15 +29,15 @@ module _ {X : Type 0} where
   along P [] each = tt
   along P (x ∷ xs) each = (each x (has_first x xs), along P xs (λ y has. each y (has_later x xs y has)))
 
-  -- and what holds along a list holds of each item that it has
+  -- what holds along a list holds of each of its items
   pub each_along : (P : X → Type 0) (xs : List X) → AllByRecursion P xs → (x : X) → Contains xs x → P x
   each_along P xs all x has = All-contains P xs x (All-from_recursion P xs all) has
 
-  -- at each place, too
+  -- what holds of each item of a list holds at each of its places
   pub all_from_contains : (P : X → Type 0) (xs : List X) → ((x : X) → Contains xs x → P x) → All P xs
   all_from_contains P xs each k d below = each (get_or xs k d) (Contains-get_or xs k d below)
 
-  -- a filter keeps the items that pass
+  -- a filter keeps the items that pass its test
   pub filter_has : (test : X → Bool) (xs : List X) (x : X) → Contains xs x → test x ≡ true → Contains (filter test xs) x
   filter_has test [] x has pass = absurd (none_in_nil x has)
   filter_has test (y ∷ xs) x has pass =
@@ -54,7 +54,7 @@ module _ {X : Type 0} where
       at_later true rest = has_later y (filter test xs) x rest
       at_later false rest = rest
 
-  -- and no others
+  -- each item that a filter keeps is one of the list and passes its test
   pub from_filter : (test : X → Bool) (xs : List X) (x : X) → Contains (filter test xs) x → Contains xs x × (test x ≡ true)
   from_filter test [] x has = absurd (none_in_nil x has)
   from_filter test (y ∷ xs) x has = by (test y) refl has (from_filter test xs x) where
@@ -77,7 +77,7 @@ module _ {X Y : Type 0} (f : X → Y) where
         | inr later ↦ has_later (f y) (map f xs) (f x) (map_has xs x later)
       ]
 
-  -- and an item of the mapped list is an item's image
+  -- each item of a mapped list is the image of an item of the list
   pub from_map : (xs : List X) (y : Y) → Contains (map f xs) y → (x : X) × Contains xs x × (f x ≡ y)
   from_map [] y has = absurd (none_in_nil y has)
   from_map (x ∷ xs) y has =
@@ -96,7 +96,7 @@ module _ {X Y : Type 0} (f : X → List Y) where
         | inr later ↦ Contains-append_right (f z) (flat_map f xs) y (flat_map_has xs x y later inner)
       ]
 
-  -- and no others
+  -- each item of all lists together is one of the list that some item gives
   pub from_flat_map : (xs : List X) (y : Y) → Contains (flat_map f xs) y → (x : X) × Contains xs x × Contains (f x) y
   from_flat_map [] y has = absurd (none_in_nil y has)
   from_flat_map (x ∷ xs) y has =
@@ -106,16 +106,17 @@ module _ {X Y : Type 0} (f : X → List Y) where
       ]
 
 module _ {X : Type 0} (R : X → X → Type 0) where
-  -- where each pair of items stands so, the first item stands so to each later one
+  -- if each two items of a list are related, the first is related to each later one
   pub pairs_first : (x : X) (xs : List X) → AllPairs R (x ∷ xs) → (later : X) → Contains xs later → R x later
   pairs_first x xs pairs later (k, below, is) =
       subst (λ (z : X). R x z) is (pairs 0 (suc k) later (omega arith) (omega arith))
 
-  -- and so do the pairs behind it
+  -- if each two items of a list are related, each two behind the first are
   pub pairs_rest : (x : X) (xs : List X) → AllPairs R (x ∷ xs) → AllPairs R xs
   pairs_rest x xs pairs = λ i j d before within. pairs (suc i) (suc j) d (omega arith) (omega arith)
 
-  -- with one more item at the end each two stand so, if each of the others stands so to it
+  -- each two items of a list with one more at its end are related, if each two before are and each of them to the new
+  -- one
   pub pairs_more : (xs : List X) (x : X) → AllPairs R xs → ((y : X) → Contains xs y → R y x) → AllPairs R (xs ++ x ∷ [])
   pairs_more [] x pairs last i j d before within = absurd (omega arith)
   pairs_more (y ∷ xs) x pairs last zero zero d before within = absurd (omega arith)

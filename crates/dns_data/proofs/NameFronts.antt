@@ -14,7 +14,7 @@ Begins above name = (below : Labels) × (above ++ below ≡ name)
 pub is_prefix_tells : (above name : Labels) → is_prefix above name ≡ true → Begins above name
 is_prefix_tells above name e = (is_prefix_means above name (is_prefix above name) refl).0 e
 
--- and holds where it does
+-- the test of a prefix passes if the first name's labels begin the second's
 pub is_prefix_told : (above name : Labels) → Begins above name → is_prefix above name ≡ true
 is_prefix_told above name begins = (is_prefix_means above name (is_prefix above name) refl).1 begins
 
@@ -26,7 +26,7 @@ begins_itself name = is_prefix_told name name ([], append-nil name)
 pub front_is_take : (above rest name : Labels) → above ++ rest ≡ name → take (length above) name ≡ above
 front_is_take above rest name e = ap (take (length above)) (sym e) ∙ take_at above rest (length above) refl
 
--- of two fronts of one list one begins the other
+-- of two fronts of the same list one begins the other
 pub two_fronts : {X : Type 0} (a b c d : List X) → a ++ b ≡ c ++ d
     → ((rest : List X) × (a ++ rest ≡ c)) ⊎ ((rest : List X) × (c ++ rest ≡ a))
 two_fronts [] b c d e = inl (c, refl)
@@ -40,7 +40,7 @@ two_fronts {X = X} (x ∷ a) b (y ∷ c) d e = by (two_fronts a b c d (cc)) wher
   by (inl (rest, is)) = inl (rest, cc)
   by (inr (rest, is)) = inr (rest, cc)
 
--- the octets of labels below a name, each its length and one
+-- the octets that labels below a name take: for each label its length and one
 abbrev pub tail_octets : Labels → ℕ
 tail_octets tail = sum_by (λ label. length label + 1) tail
 
@@ -52,6 +52,6 @@ octets_below above below = omega (arith, sum_by-append (λ (label : List ℕ). l
 pub octets_of_prefix : (above name : Labels) → Begins above name → wire_octets above ≤ wire_octets name
 octets_of_prefix above name (below, e) = omega (arith, octets_below above below, ap wire_octets e)
 
--- a label takes its length and one
+-- a label below a name takes its length and one octet more
 pub octets_with_label : (above : Labels) (label : List ℕ) → wire_octets (above ++ label ∷ []) ≡ wire_octets above + (length label + 1)
 octets_with_label above label = omega (arith, octets_below above (label ∷ []), sum_by-cons (λ (x : List ℕ). length x + 1) label [])

@@ -35,7 +35,7 @@ turned Less = refl
 turned Equal = refl
 turned Greater = refl
 
--- labels of which neither stands before the other are one
+-- labels of which neither stands before the other are equal
 pub same_labels : (a b : List ℕ) → label_cmp a b ≡ Equal → a ≡ b
 same_labels a b e = (bytes_decides a b).0 (texts_ties a b ∙ ap is_eq e)
 
@@ -49,7 +49,7 @@ prefix_up_to [] [] = refl
 prefix_up_to [] (label ∷ below) = refl
 prefix_up_to (label ∷ above) below = ap is_gt (under_label label above (above ++ below)) ∙ prefix_up_to above below
 
--- one that doesn't stand behind a second stands before each that the second stands before
+-- a name that doesn't stand behind a second stands before each name that the second stands before
 pub up_to_before : (a b c : Labels) → UpTo a b → Before b c → Before a c
 up_to_before a b c le lt = by (name_cmp a b) refl le where
   by : (o : Ordering) → name_cmp a b ≡ o → is_gt o ≡ false → Before a c
@@ -57,7 +57,7 @@ up_to_before a b c le lt = by (name_cmp a b) refl le where
   by Equal e h = names_total.congr a b c e ∙ lt
   by Greater e h = absurd (true≢false h)
 
--- one that stands before a second stands before each that the second doesn't stand behind
+-- a name that stands before a second stands before each name that the second doesn't stand behind
 pub before_up_to : (a b c : Labels) → Before a b → UpTo b c → Before a c
 before_up_to a b c less le = by (name_cmp b c) refl le where
   by : (o : Ordering) → name_cmp b c ≡ o → is_gt o ≡ false → Before a c
@@ -65,14 +65,14 @@ before_up_to a b c less le = by (name_cmp b c) refl le where
   by Equal e h = subst (Before a) (same_names b c e) less
   by Greater e h = absurd (true≢false h)
 
--- a name that stands before another isn't it
+-- a name that stands before another differs from it
 pub before_differs : (a b : Labels) → Before a b → name_eq a b ≡ false
 before_differs a b less = by (name_eq a b) refl where
   by : (same : Bool) → name_eq a b ≡ same → same ≡ false
   by false e = refl
   by true e = absurd (never_before_itself name_cmp names_total b (subst (λ (x : Labels). Before x b) ((name_eq_decides a b).0 e) less))
 
--- and the other way round
+-- a name that stands behind another differs from it
 pub behind_differs : (a b : Labels) → Before b a → name_eq a b ≡ false
 behind_differs a b less = by (name_eq a b) refl where
   by : (same : Bool) → name_eq a b ≡ same → same ≡ false
@@ -111,18 +111,18 @@ before_later (name ∷ names) sorted i zero d lower within = absurd (omega arith
 before_later (name ∷ names) sorted zero (suc j) d lower within = All-after_first name_cmp name names sorted j d (omega arith)
 before_later (name ∷ names) sorted (suc i) (suc j) d lower within = before_later names (sorted_tail name_cmp name names sorted) i j d (omega arith) (omega arith)
 
--- each name of the list stands before the later ones
+-- each name of a list stands before the later ones, by recursion along the list
 abbrev pub Rising : List Labels → Type 0
 Rising [] = Unit {0}
 Rising (name ∷ names) = ((later : Labels) → Contains names later → Before name later) × Rising names
 
--- so each pair of the list stands so
+-- of each two names of a rising list the first stands before the second
 pub pairs_from_rising : (names : List Labels) → Rising names → AllPairs Before names
 pairs_from_rising [] h = λ i j d lt below. absurd (none_in_nil d (j, below, refl))
 pairs_from_rising (name ∷ names) h =
     AllPairs-cons Before name names (all_from_contains (Before name) names h.0) (pairs_from_rising names h.1)
 
--- two such lists in a row, each name of the first before those of the second
+-- two rising lists of names in a row rise, if each name of the first stands before those of the second
 pub rising_append : (xs ys : List Labels) → Rising xs → Rising ys
     → ((x y : Labels) → Contains xs x → Contains ys y → Before x y) → Rising (xs ++ ys)
 rising_append [] ys h k across = k
@@ -134,7 +134,7 @@ rising_append (x ∷ xs) ys h k across = (
   rising_append xs ys h.1 k (λ a b has there. across a b (has_later x xs a has) there),
 )
 
--- such a list with a label before each name
+-- a rising list of names rises with the same label before each name
 pub rising_map : (label : List ℕ) (names : List Labels) → Rising names → Rising (map (λ above. label ∷ above) names)
 rising_map label [] h = tt
 rising_map label (name ∷ names) h = (
@@ -143,7 +143,7 @@ rising_map label (name ∷ names) h = (
   rising_map label names h.1,
 )
 
--- and one that a filter leaves
+-- what a filter leaves of a rising list of names rises
 pub rising_filter : (test : Labels → Bool) (names : List Labels) → Rising names → Rising (filter test names)
 rising_filter test [] h = tt
 rising_filter test (name ∷ names) h = by (test name) (rising_filter test names h.1) where

@@ -20,7 +20,7 @@ label_eq_decides = bytes_decides
 pub name_eq_decides : (a b : Labels) → (name_eq a b ≡ true → a ≡ b) × (a ≡ b → name_eq a b ≡ true)
 name_eq_decides = pointwise_decides label_eq_decides
 
--- names of which neither stands before the other are one
+-- names of which neither stands before the other are equal
 pub same_names : (a b : Labels) → name_cmp a b ≡ Equal → a ≡ b
 same_names a b e = (name_eq_decides a b).0 (lists_ties label_cmp texts_ties a b ∙ ap is_eq e)
 
@@ -29,7 +29,7 @@ is_eq-Equal Less h = cc
 is_eq-Equal Equal h = refl
 is_eq-Equal Greater h = cc
 
--- a name is the other exactly where neither stands before the other
+-- two names are equal exactly if neither stands before the other
 pub name_cmp_equal : (a b : Labels) (o : Ordering) → o ≡ name_cmp a b → (o ≡ Equal) ↔ (a ≡ b)
 name_cmp_equal a b o is = (
   λ e. same_names a b (sym is ∙ e),
@@ -50,12 +50,12 @@ two_octets_each [] h = omega arith
 two_octets_each (label ∷ labels) h =
     omega (arith, two_octets_each labels h.1, h.0.not_empty, sum_by-cons (λ (xs : List ℕ). length xs + 1) label labels)
 
--- what holds of the items of two lists holds of those of both
+-- what holds of all items of two lists holds of all items of the two in a row
 pub all_append : {X : Type 0} (P : X → Type 0) (xs ys : List X) → AllByRecursion P xs → AllByRecursion P ys → AllByRecursion P (xs ++ ys)
 all_append P [] ys h k = k
 all_append P (x ∷ xs) ys h k = (h.0, all_append P xs ys h.1 k)
 
--- and of one more item
+-- what holds of all items of a list and of one more holds of all with that one at the end
 pub all_push : {X : Type 0} (P : X → Type 0) (xs : List X) (x : X) → AllByRecursion P xs → P x → AllByRecursion P (xs ++ x ∷ [])
 all_push P xs x h k = all_append P xs (x ∷ []) h (k, tt)
 
@@ -68,7 +68,7 @@ all_so P Q (x ∷ xs) so all = (so x all.0, all_so P Q xs so all.1)
 pub name_append : (a b : Labels) → AllByRecursion IsLabel a → AllByRecursion IsLabel b → wire_octets (a ++ b) ≤ 255 → IsName (a ++ b)
 name_append a b h k short = record { labels = all_append IsLabel a b h k; short = short }
 
--- and of the first items
+-- what holds of all items of a list holds of its first items
 pub all_front : {X : Type 0} (P : X → Type 0) (n : ℕ) (xs : List X) → AllByRecursion P xs → AllByRecursion P (take n xs)
 all_front P zero xs h = tt
 all_front P (suc n) [] h = tt
@@ -87,7 +87,7 @@ name_front n a h =
 pub root_is_name : IsName []
 root_is_name = record { labels = tt; short = omega arith }
 
--- so is a name that begins another
+-- what begins a name is a name
 pub prefix_is_name : (above name below : Labels) → above ++ below ≡ name → IsName name → IsName above
 prefix_is_name above name below e h =
     subst IsName (ap (take (length above)) (sym e) ∙ take_at above below (length above) refl) (name_front (length above) name h)
@@ -98,14 +98,14 @@ prefix_is_name above name below e h =
 abbrev pub is_label : List ℕ → Bool
 is_label label = nat_lt 0 (length label) && nat_le (length label) 63 && list_all is_label_octet label
 
--- what passes is a label
+-- what passes the test of a label is a label
 pub is_label_tells : (label : List ℕ) → is_label label ≡ true → IsLabel label
 is_label_tells label e =
     let parts = and_parts _ _ e in
     let sizes = and_parts _ _ parts.0 in
     record { not_empty = ltb-true 0 (length label) sizes.0; short = leb-true (length label) 63 sizes.1; octets = parts.1 }
 
--- and a label passes
+-- a label passes the test of a label
 pub is_label_told : (label : List ℕ) → IsLabel label → is_label label ≡ true
 is_label_told label is =
     and_from _ _ (and_from _ _ (lt-ltb 0 (length label) is.not_empty) (le-leb (length label) 63 is.short)) is.octets
@@ -121,7 +121,7 @@ labels_tell (label ∷ labels) e =
 abbrev pub is_name : Labels → Bool
 is_name name = list_all is_label name && nat_le (wire_octets name) 255
 
--- what passes is a name
+-- what passes the test of a name is a name
 pub is_name_tells : (name : Labels) → is_name name ≡ true → IsName name
 is_name_tells name e =
     let parts = and_parts (list_all is_label name) (nat_le (wire_octets name) 255) e in
@@ -132,7 +132,7 @@ labels_told : (labels : Labels) → AllByRecursion IsLabel labels → list_all i
 labels_told [] each = refl
 labels_told (label ∷ labels) each = and_from (is_label label) (list_all is_label labels) (is_label_told label each.0) (labels_told labels each.1)
 
--- and a name passes
+-- a name passes the test of a name
 pub is_name_told : (name : Labels) → IsName name → is_name name ≡ true
 is_name_told name is =
     and_from (list_all is_label name) (nat_le (wire_octets name) 255) (labels_told name is.labels) (le-leb (wire_octets name) 255 is.short)

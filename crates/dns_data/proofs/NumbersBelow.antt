@@ -8,7 +8,7 @@ pub numbers_below : ℕ → List ℕ
 numbers_below zero = []
 numbers_below (suc n) = n ∷ numbers_below n
 
--- a number below it is among them
+-- each number below a bound is among the numbers below it
 pub numbers_below_have : (n k : ℕ) → k < n → Contains (numbers_below n) k
 unfolding numbers_below
 numbers_below_have zero k below = absurd (omega arith)
@@ -20,7 +20,7 @@ numbers_below_have (suc n) k below =
           subst (λ (m : ℕ). Contains (n ∷ numbers_below n) m) same (has_first n (numbers_below n)))
     ]
 
--- and one among them is below it
+-- each of the numbers below a bound is below it
 pub from_numbers_below : (n k : ℕ) → Contains (numbers_below n) k → k < n
 unfolding numbers_below
 from_numbers_below zero k has = absurd (none_in_nil k has)

@@ -10,7 +10,7 @@ use Rattle.dns_data.proofs.Membership.{none_in_nil, has_first, has_later, first_
 
 -- ---- orders
 
--- where two comparisons in a row tie, each does
+-- if two comparisons in a row find no difference, neither does
 pub both_tie : (o p : Ordering) → ordering_then o p ≡ Equal → (o ≡ Equal) × (p ≡ Equal)
 both_tie Less p e = (cc, cc)
 both_tie Equal p e = (refl, e)
@@ -28,7 +28,7 @@ exact_lists R exact (x ∷ xs) (y ∷ ys) e =
     cc
 
 module _ {X : Type 0} (R : X → X → Ordering) (o : IsTotalOrder R) where
-  -- items of which neither stands before the other are one
+  -- items of which neither stands before the other are equal
   pub neither_before : CmpEqualImpliesEq R → (x y : X) → R x y ≢ Less → R y x ≢ Less → x ≡ y
   neither_before exact x y later earlier = by (R x y) refl where
     by : (found : Ordering) → R x y ≡ found → x ≡ y
@@ -43,7 +43,7 @@ module _ {X : Type 0} (R : X → X → Ordering) (o : IsTotalOrder R) where
       let tied : R x x ≡ Equal = tied_itself o x in
       cc
 
-  -- and none before itself
+  -- no item stands before itself
   pub never_before_itself : (x : X) → R x x ≡ Less → ⊥
   never_before_itself x before = never_both x x before before
 
@@ -84,7 +84,7 @@ module _ {X : Type 0} (R : X → X → Ordering) (o : IsTotalOrder R) where
         | inr behind ↦ behind
       ]
 
-  -- two rising lists with the same items are one
+  -- two rising lists with the same items are equal
   pub same_rising : (xs ys : List X) → IsRising xs → IsRising ys
       → ((item : X) → Contains xs item → Contains ys item) → ((item : X) → Contains ys item → Contains xs item) → xs ≡ ys
   same_rising [] [] first second has back = refl

@@ -6,7 +6,7 @@ use Rattle.std.proofs.lemmas.List.{append-nil, map_more, take_more, length-map, 
 use Rattle.std.proofs.lemmas.List.Concat.{flat_map-append}
 use Rattle.dns_data.specs.DataText.{separated, groups}
 
--- one more text, behind a separator
+-- a text put behind others with a separator stands behind their text and the separator
 pub separated-push : (between : List ℕ) (texts : List (List ℕ)) (text : List ℕ) → 0 < length texts → separated between (texts ++ text ∷ []) ≡ (separated between texts ++ between) ++ text
 separated-push between [] text h = absurd (omega arith)
 separated-push between (first ∷ texts) text h =
@@ -15,7 +15,7 @@ separated-push between (first ∷ texts) text h =
     let f : first ++ (flat_map behind texts ++ ((between ++ text) ++ [])) ≡ ((first ++ flat_map behind texts) ++ between) ++ text = simp (append_assoc, append-nil) in
     ap (λ rest. first ++ rest) e ∙ f
 
--- the texts of the first items, and one more
+-- the text of the first item stands behind no separator
 pub separated-first : {X : Type 0} (between : List ℕ) (text_of : X → List ℕ) (items : List X) (i : ℕ) (x : X) → i ≤ 0 → i < length items → x ≡ get_or items i x → separated between (map text_of (take (i + 1) items)) ≡ separated between (map text_of (take i items)) ++ text_of x
 separated-first between text_of [] i x none below here = absurd (omega arith)
 separated-first between text_of (y ∷ ys) i x none below here =

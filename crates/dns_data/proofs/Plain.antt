@@ -77,7 +77,7 @@ folded_label text label n fits within some short e =
       octets = all_good (take n text) (front_fits n text fits);
     })
 
--- a text that begins with a dot
+-- a text that begins with a dot is the dot and what is behind it
 pub dot_first : (rest : List ℕ) → 1 ≤ length rest → get_or rest 0 0 ≡ 46 → rest ≡ 46 ∷ take (length rest - 1) (drop 1 rest)
 dot_first [] h e = absurd (omega arith)
 dot_first (x ∷ rest) h e = ap (λ (o : ℕ). o ∷ rest) e ∙ ap (λ (l : List ℕ). 46 ∷ l) (sym (take_all _ rest (omega arith)))

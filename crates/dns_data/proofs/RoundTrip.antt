@@ -77,7 +77,7 @@ octets_read (octet ∷ octets) before rest good short =
     let shorter : length (before ++ octet ∷ []) + length octets ≤ 63 = omega (arith, length_push before octet) in
     ap (λ (t : List ℕ). spelled before (signs t)) (append_assoc (octet_text octet) (flat_map octet_text octets) rest) ∙ ap (spelled before) (octet_reads octet text (label_octet_small octet g.0)) ∙ ap (λ b. if b then Err LabelTooLong else spelled (before ++ folded octet ∷ []) (signs text)) (not_full (length before) (length octets) short) ∙ ap (λ (o : ℕ). spelled (before ++ o ∷ []) (signs text)) (lower_stays octet g.0) ∙ octets_read octets (before ++ octet ∷ []) rest g.1 shorter ∙ ap (λ (l : List ℕ). spelled l (signs rest)) (append_assoc before (octet ∷ []) octets)
 
--- a number above 0 isn't 0 by the test either
+-- a number above 0 fails the test for 0
 pub not_empty : (n : ℕ) → 0 < n → (n == 0) ≡ false
 not_empty n h = grind (arith, nat_tests)
 

@@ -15,7 +15,7 @@ module _ {A : Type 0} (test : A → Bool) where
         | inr later ↦ each_of_all xs parts.1 x later
       ]
 
-  -- where some item passes, one of the list does
+  -- if some item of a list passes a test, the list has an item that passes
   pub from_any : (xs : List A) → list_any test xs ≡ true → (x : A) × Contains xs x × (test x ≡ true)
   from_any [] some = absurd (true≢false (sym some))
   from_any (first ∷ xs) some =
@@ -24,7 +24,7 @@ module _ {A : Type 0} (test : A → Bool) where
         | inr later ↦ (let rest = from_any xs later in (rest.0, has_later first xs rest.0 rest.1, rest.2))
       ]
 
-  -- an item that passes is found
+  -- a list that has an item that passes a test passes it for some item
   pub any_has : (xs : List A) (x : A) → Contains xs x → test x ≡ true → list_any test xs ≡ true
   any_has [] x has pass = absurd (none_in_nil x has)
   any_has (first ∷ xs) x has pass =
@@ -33,26 +33,26 @@ module _ {A : Type 0} (test : A → Bool) where
         | inr later ↦ or_right (test first) (list_any test xs) (any_has xs x later pass)
       ]
 
-  -- where each item fails, none passes
+  -- if each item of a list fails a test, the list passes it for none
   pub any_none : (xs : List A) → ((x : A) → Contains xs x → test x ≡ false) → list_any test xs ≡ false
   any_none [] fails = refl
   any_none (first ∷ xs) fails =
       or_from (test first) (list_any test xs) (fails first (has_first first xs))
       (any_none xs (λ x has. fails x (has_later first xs x has)))
 
-  -- then a filter leaves nothing
+  -- if no item of a list passes a test, a filter by it leaves nothing
   pub filter_none : (xs : List A) → list_any test xs ≡ false → filter test xs ≡ []
   filter_none [] none = refl
   filter_none (first ∷ xs) none =
       let parts = or_parts (test first) (list_any test xs) none in rw (parts.0) (filter_none xs parts.1)
 
-  -- and a search finds nothing
+  -- if each item of a list fails a test, a search by it finds nothing
   pub find_none : (xs : List A) → ((x : A) → Contains xs x → test x ≡ false) → find test xs ≡ None
   find_none [] fails = refl
   find_none (first ∷ xs) fails =
       rw (fails first (has_first first xs)) (find_none xs (λ x has. fails x (has_later first xs x has)))
 
-  -- where an item passes, a search finds one that does
+  -- if an item of a list passes a test, a search by it finds one that does
   pub find_some : (xs : List A) (x : A) → Contains xs x → test x ≡ true → (y : A) × (find test xs ≡ Some y) × (test y ≡ true)
   find_some [] x has pass = absurd (none_in_nil x has)
   find_some (first ∷ xs) x has pass = by (test first) refl (find_some xs x) where
@@ -65,7 +65,7 @@ module _ {A : Type 0} (test : A → Bool) where
           | inr later ↦ rest later pass
         ]
 
-  -- and what a search finds is an item that passes
+  -- what a search finds is an item of the list that passes the test
   pub found_there : (xs : List A) (x : A) → find test xs ≡ Some x → Contains xs x × (test x ≡ true)
   found_there [] x e = cc
   found_there (first ∷ xs) x e = by (test first) refl e (found_there xs x) where
@@ -76,7 +76,7 @@ module _ {A : Type 0} (test : A → Bool) where
         (subst (Contains (first ∷ xs)) same (has_first first xs), ap test (sym same) ∙ passes)
     by false fails is rest = let later = rest is in (has_later first xs x later.0, later.1)
 
--- two tests that hold together are one truth value
+-- two truth values of which each implies the other are equal
 pub same_truth : (a b : Bool) → (a ≡ true → b ≡ true) → (b ≡ true → a ≡ true) → a ≡ b
 same_truth true b there back = sym (there refl)
 same_truth false true there back = back refl
@@ -91,7 +91,7 @@ module _ {A : Type 0} (one other : A → Bool) where
       ∙ ap (λ (found : Option A). cond (other first) (Some first) found)
       (find_same xs (λ x has. agree x (has_later first xs x has)))
 
-  -- and leave the same items
+  -- filters by two tests that agree on the items of a list leave the same items
   pub filter_same : (xs : List A) → ((x : A) → Contains xs x → one x ≡ other x) → filter one xs ≡ filter other xs
   filter_same [] agree = refl
   filter_same (first ∷ xs) agree =
@@ -113,7 +113,7 @@ module _ {A B : Type 0} (f : A → Option B) where
       behind None rest = rest
       behind (Some other) rest = has_later other (filter_map f xs) y rest
 
-  -- and nothing else is
+  -- what all items give together is given by some item
   pub from_filter_map : (xs : List A) (y : B) → Contains (filter_map f xs) y → (x : A) × Contains xs x × (f x ≡ Some y)
   from_filter_map [] y has = absurd (none_in_nil y has)
   from_filter_map (first ∷ xs) y has = by (f first) refl has (from_filter_map xs y) where

@@ -10,22 +10,22 @@ use Rattle.dns_data.specs.DataText.{separated}
 abbrev pub split_on : ℕ → List ℕ → List (List ℕ)
 split_on separator octets = slice_split (λ octet. octet == separator) octets
 
--- the text has no such octet
+-- the text doesn't have the octet
 abbrev pub Lacks : ℕ → List ℕ → Type 0
 Lacks c [] = Unit {0}
 Lacks c (x ∷ xs) = (eqb x c ≡ false) × Lacks c xs
 
--- no text of a list has it
+-- none of the texts of a list has the octet
 abbrev pub AllLack : ℕ → List (List ℕ) → Type 0
 AllLack c [] = Unit {0}
 AllLack c (text ∷ texts) = Lacks c text × AllLack c texts
 
--- two texts together
+-- two texts without an octet are without it together
 pub lacks-append : (c : ℕ) (a b : List ℕ) → Lacks c a → Lacks c b → Lacks c (a ++ b)
 lacks-append c [] b p q = q
 lacks-append c (x ∷ a) b p q = (p.0, lacks-append c a b p.1 q)
 
--- the texts of the items of a list
+-- texts of the items of a list without an octet are without it together
 pub lacks-flat_map : {X : Type 0} (c : ℕ) (text_of : X → List ℕ) (items : List X) → ((x : X) → Lacks c (text_of x)) → Lacks c (flat_map text_of items)
 lacks-flat_map c text_of [] h = tt
 lacks-flat_map c text_of (x ∷ items) h = lacks-append c (text_of x) (flat_map text_of items) (h x) (lacks-flat_map c text_of items h)
@@ -61,7 +61,7 @@ split-separated c first [] h = ap (split_on c) (append-nil first) ∙ split-alon
 split-separated c first (next ∷ texts) h =
     split-lacking c first (next ++ rest_of c texts) h.0 ∙ ap (λ (l : List (List ℕ)). first ∷ l) (split-separated c next texts h.1)
 
--- so they are told from what they make
+-- two lists of as many texts without the separator are equal if they make the same text
 pub separated_same : (c : ℕ) (xs ys : List (List ℕ)) → length xs ≡ length ys → AllLack c xs → AllLack c ys → separated (c ∷ []) xs ≡ separated (c ∷ []) ys → xs ≡ ys
 separated_same c [] [] n p q e = refl
 separated_same c [] (y ∷ ys) n p q e = absurd (omega arith)
@@ -72,7 +72,8 @@ separated_same c (x ∷ xs) (y ∷ ys) n p q e =
 not_both : (b : Bool) → b ≡ true → b ≡ false → ⊥
 not_both b h k = cc
 
--- what stands before the first separator, and what behind it
+-- texts without the separator that stand before its first place in the same text are equal, and so is what stands
+-- behind
 pub first_same : (c : ℕ) (a b r s : List ℕ) → Lacks c a → Lacks c b → a ++ (c ∷ r) ≡ b ++ (c ∷ s) → (a ≡ b) × (r ≡ s)
 first_same c [] [] r s p q e = (refl, cc)
 first_same c [] (y ∷ b) r s p q e = let same : c ≡ y = cc in absurd (not_both (eqb y c) (eq-eqb y c (sym same)) q.0)

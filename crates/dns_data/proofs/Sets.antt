@@ -107,7 +107,7 @@ least_found test t (x ∷ xs) o e =
       | inr fails ↦ (λ passes. absurd (cc), least_found test t xs parts.1 (rw fails at e))
     ]
 
--- none is found exactly where no type passes
+-- no type is found exactly if none passes the test
 pub first_none : (test : RrType → Bool) (found : Option RrType) → found ≡ find test types → IsNone found ↔ ((t : RrType) → test t ≡ false)
 first_none test None e = (λ _. all_types _ (none_passes test types (sym e)), λ _. refl)
 first_none test (Some x) e = (λ n. absurd (cc), λ h. let none = none_found test h types in absurd (cc))

@@ -42,7 +42,7 @@ pub put_none : (out : List ℕ) → IsPutAt out (length out) []
 unfolding encoded
 put_none out = record { within = omega arith; same = drop_all (length out) out (omega arith) }
 
--- one more label has no room
+-- a label that is at least as long as the room left makes a name with more octets than there is room for
 pub put_full : (out : List ℕ) (end : ℕ) (labels : Labels) (x : List ℕ) → IsPutAt out end labels → end ≤ length x → length out + 1 < wire_octets (labels ++ x ∷ [])
 put_full out end labels x h full = omega (arith, put_size out end labels h, more_size labels x)
 
@@ -50,7 +50,7 @@ one_above : (labels : Labels) (x : List ℕ) → encoded (reverse (labels ++ x �
 unfolding encoded
 one_above labels x = ap encoded (reverse-append labels (x ∷ []))
 
--- one more label, put above
+-- a label that is put above the labels at the end of the octets stands there with them
 pub put_more : (out ys : List ℕ) (end start k : ℕ) (labels : Labels) (x : List ℕ) → IsPutAt out end labels → start + length x + 1 ≡ end → k ≡ length x + 1 → ys ≡ length x ∷ x → IsPutAt (put_mid start k out ys) start (labels ++ x ∷ [])
 put_more out ys end start k labels x h at much e =
     let front : length (take start out) ≡ start = length-take-le start out (omega (arith, h.within)) in
@@ -61,7 +61,7 @@ put_more out ys end start k labels x h at much e =
       same = behind ∙ ap (λ (r : List ℕ). ys ++ r) (after ∙ h.same) ∙ ap (λ (r : List ℕ). r ++ encoded (reverse labels)) e ∙ sym (one_above labels x);
     }
 
--- labels that are too many for a name
+-- labels with more than 255 octets are refused as a name that is too long
 pub if_long : (name : Labels) → 255 < wire_octets name → if_short name ≡ Err NameTooLong
 if_long name long = grind (arith, nat_tests)
 
@@ -80,7 +80,7 @@ put_flat size out start labels h room short good =
     let same : take (size - start) (drop start out) ≡ encoded (reverse labels) = take_all (size - start) (drop start out) (omega (arith, length-drop start out)) ∙ h.same in
     (subst EncodesName (sym same) (flat_of (reverse labels) name), ap labels_of same ∙ decodes (reverse labels))
 
--- where the labels stand
+-- labels that were put stand at the end of the octets from the start on
 pub put_at : (out : List ℕ) (start : Option ℕ) (end : ℕ) (labels : Labels) → start ≡ Some end → IsPut out start labels → IsPutAt out end labels
 put_at out start end labels e h = subst (λ (o : Option ℕ). IsPut out o labels) e h
 
@@ -104,7 +104,7 @@ pub record IsSpelling (size : ℕ) (whole rest out : List ℕ) (start : Option �
   pub put : IsPut out start labels
   pub room : length out ≡ size
 
--- all is spelled
+-- all of the text is spelled: these labels stand at the end of so many octets
 pub record IsDone (size : ℕ) (whole out : List ℕ) (start : Option ℕ) (absolute : Bool) : Type 0 where
   pub labels : Labels
   pub said : spelled [] (signs whole) ≡ Ok (record { labels = labels; absolute = absolute })
@@ -112,7 +112,7 @@ pub record IsDone (size : ℕ) (whole out : List ℕ) (start : Option ℕ) (abso
   pub put : IsPut out start labels
   pub room : length out ≡ size
 
--- one more label is put
+-- one more label was put above those at the end of the octets, or had no room there
 abbrev pub PutsMore : List ℕ → Option ℕ → List ℕ → Option ℕ → List ℕ → Type 0
 PutsMore out start out_after start_after label = (labels : Labels) → IsPut out start labels → IsPut out_after start_after (labels ++ label ∷ [])
 

@@ -122,7 +122,7 @@ caa_same flags flags' tag value tag' value' p q e =
           ∙ sym (append_assoc (plain tag) (32 ∷ []) (34 ∷ (plain value ++ 34 ∷ [])))
           ∙ ap (λ (front : List ℕ). front ++ (34 ∷ (plain value ++ 34 ∷ []))) (sym (flat_map-append string_octet_text tag (32 ∷ [])))
 
--- the texts of data of one type are one only where the data are one
+-- data of one type with the same text are equal
 pub texts_tell : (a b : Rdata) → IsData a → IsData b → type_of_data a ≡ type_of_data b → IsSome (type_of_data a) → data_text a ≡ data_text b → a ≡ b
 texts_tell (A a) (A b) p q t s e = ap A (a_same a b p q e)
 texts_tell (Ns a) (Ns b) p q t s e = ap Ns (name_same a b p q e)

@@ -7,7 +7,7 @@ use Rattle.dns_data.specs.Name.{Labels, wire_octets}
 use Rattle.dns_data.specs.Spelling.{signs, spelled, after_label}
 use Rattle.dns_data.specs.Encoding.{encoded}
 
--- from there on the octets are those of the labels, the last first
+-- from the start on the octets are those of the labels, the last label first
 pub record IsPutAt (out : List ℕ) (start : ℕ) (labels : Labels) : Type 0 where
   pub within : start ≤ length out
   pub same : drop start out ≡ encoded (reverse labels)

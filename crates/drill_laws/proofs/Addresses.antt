@@ -30,7 +30,7 @@ ten = refl
 regroup : (a b c : List ℕ) → codes "10." ++ a ++ codes "." ++ b ++ codes "." ++ c ≡ codes "10" ++ ((46 ∷ a) ++ ((46 ∷ b) ++ ((46 ∷ c) ++ [])))
 regroup a b c = simp (append_assoc, append-nil)
 
--- its text reads as the address
+-- the text of an address of a drill reads as that address
 pub address_reads : (network high low : ℕ) → network < 256 → high < 256 → low < 256
     → rdata_of types.A (bare (address_text network high low) ∷ []) [] ≡ Ok (A (address_of network high low))
 address_reads network high low p q r =
@@ -53,7 +53,7 @@ front_part = record { plain = refl; short = omega arith }
 small_part : (n : ℕ) → n < 256 → IsPart 4 (decimal n)
 small_part n small = number_part (decimal n) (number_of n (omega arith))
 
--- and is a part of a word
+-- the text of an address of a drill is a part of a word
 pub address_part : (network high low : ℕ) → network < 256 → high < 256 → low < 256 → IsPart 17 (address_text network high low)
 address_part network high low p q r =
     let one = both_parts 3 4 (codes "10.") (decimal network) front_part (small_part network p) in

@@ -31,7 +31,7 @@ abbrev pub AllFit : Labels → List Rr → List Rr → Type 0
 AllFit origin before [] = Unit {0}
 AllFit origin before (rr ∷ rrs) = Fits origin before rr × AllFit origin (before ++ rr ∷ []) rrs
 
--- no SOA record
+-- none of the records is an SOA record
 abbrev pub NoSoas : List Rr → Type 0
 NoSoas rrs = AllByRecursion (λ rr. is_type types.Soa rr ≡ false) rrs
 

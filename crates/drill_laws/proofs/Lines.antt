@@ -139,6 +139,6 @@ lines_read line ((word ∷ words) ∷ lines) are =
 pub entries_of_lines : (lines : List (List (List ℕ))) → AllByRecursion IsLine lines → text_entries (flat_map line_text lines) ≡ line_entries 1 lines
 entries_of_lines lines are = ap (λ (held : Contents). held.whole ++ held.last) (lines_read 1 lines are) ∙ append-nil (line_entries 1 lines)
 
--- and have no fault
+-- the text of lines has no fault
 pub no_fault_of_lines : (lines : List (List (List ℕ))) → AllByRecursion IsLine lines → text_fault (flat_map line_text lines) ≡ None
 no_fault_of_lines lines are = ap (λ (held : Contents). held.fault) (lines_read 1 lines are)

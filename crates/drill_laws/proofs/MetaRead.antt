@@ -33,7 +33,7 @@ top = codes "top" ∷ codes "a" ∷ []
 abbrev pub root_row : MetaRow
 root_row = record { file = codes "root.zone"; server = top; origin = None }
 
--- the metadata
+-- the metadata that a drill's metadata file reads as
 abbrev pub drill_meta : ℕ → Meta
 drill_meta n = record { tops = top ∷ []; rows = root_row ∷ map zone_row (zone_numbers n) }
 

@@ -57,7 +57,7 @@ zone_named number is =
     let whole : IsName (zone_name number) = record { labels = (zone_label_is number is, tt); short = omega (arith, is.short) } in
     ap (λ (octets : List ℕ). name_of_text octets []) (sym text) ∙ text_reads_back (zone_name number) [] whole
 
--- and so does that of a host's name
+-- the text of a host's name reads as that name
 pub host_named : (host number : List ℕ) → IsHost host → IsNumber number → name_of_text (host_name_text host number) [] ≡ Ok (host_name host number)
 host_named host number host_is is =
     let text : name_text (host_name host number) ≡ host_name_text host number =

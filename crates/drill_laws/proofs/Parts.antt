@@ -98,7 +98,7 @@ pub record IsPart (most : ℕ) (octets : List ℕ) : Type 0 where
 pub number_part : (digits : List ℕ) → IsNumber digits → IsPart 4 digits
 number_part digits is = record { plain = all_digits is_plain digit_is_plain digits is.digits; short = is.short }
 
--- two parts are one
+-- two parts of a word, one behind the other, are a part of a word
 pub both_parts : (m n : ℕ) (first second : List ℕ) → IsPart m first → IsPart n second → IsPart (m + n) (first ++ second)
 both_parts m n first second p q = record {
   plain = list_all-append is_plain first second ∙ (λ i. p.plain i && q.plain i);

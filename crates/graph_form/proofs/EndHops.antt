@@ -23,7 +23,7 @@ is_stopped (leaves.Lame ns) = true
 is_stopped (leaves.NoAddress ns) = true
 is_stopped leaf = false
 
--- an end without a hop isn't such
+-- the branch doesn't end, without a hop, at a name server that can't be asked
 abbrev pub StopsBehindHop : Branch → Type 0
 StopsBehindHop (Go hop state) = Unit {0}
 StopsBehindHop (End (Some hop) leaf) = Unit {0}
@@ -66,7 +66,7 @@ module _ (setting : Setting) (state : State) where
       either_list (nat_lt state.used setting.rewrites) _ _ (of_servers _ by_dname to (servers_after setting.config state to)) (refl, tt)
   of_found origin (found_as.TooLong owner) = either_list (nat_lt state.used setting.rewrites) _ _ (refl, tt) (refl, tt)
 
-  -- each branch of a state is such
+  -- no branch of a state ends, without a hop, at a name server that can't be asked
   pub next_stops : (rtype : RrType) → AllByRecursion StopsBehindHop (next setting rtype state)
   next_stops rtype = by (nearest_of setting.config state.server state.name) where
     by : (zone : Option Zone) → AllByRecursion StopsBehindHop (in_zone setting rtype state zone)

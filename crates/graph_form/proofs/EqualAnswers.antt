@@ -19,14 +19,14 @@ same_lists [] (y ∷ ys) = refl
 same_lists (x ∷ xs) [] = refl
 same_lists (x ∷ xs) (y ∷ ys) = ap (λ b. b && pointwise (data_impl.ghosts).eq xs ys) (same_data x y) ∙ ap (λ b. data_eq x y && b) (same_lists xs ys)
 
--- authoritative leaves that are equal are one
+-- authoritative leaves that the test finds equal are the same
 pub same_answers : (a b : Leaf) → answer_eq a b ≡ true → a ≡ b
 same_answers (Answer a) (Answer b) e = ap Answer ((pointwise_decides (λ x y. equal_is_same x y) a b).0 e)
 same_answers NoData NoData e = refl
 same_answers NxDomain NxDomain e = refl
 same_answers a b e = cc
 
--- and one is equal to itself
+-- the test finds an authoritative leaf equal to itself
 pub answer_itself : (a : Leaf) → is_authoritative a ≡ true → answer_eq a a ≡ true
 answer_itself (Answer a) e = (pointwise_decides (λ x y. equal_is_same x y) a a).1 refl
 answer_itself NoData e = refl

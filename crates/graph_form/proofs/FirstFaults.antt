@@ -22,7 +22,7 @@ alone_pairs : {X : Type 0} (R : X → X → Type 0) (y : X) → AllPairs R (y �
 alone_pairs R y i j d less within = absurd (omega arith)
 
 module _ {T : Type 0} (fault_of : T → Fault) (rank : T → T → Ordering) where
-  -- what is sorted
+  -- no item of the list stands behind one that it comes before, by fault and then by rank
   abbrev pub InOrder : List T → Type 0
   InOrder sorted = AllPairs (λ a b. item_cmp fault_of rank b a ≢ Less) sorted
 
@@ -137,7 +137,7 @@ module _ {T : Type 0} (fault_of : T → Fault) (rank : T → T → Ordering) (to
             less (fault_cmp (fault_of last) (fault_of next))
             (not_after last next (not_behind last (subst (λ xs. Contains xs last) (sym is) (Contains-append_right front (last ∷ []) last (has_first last []))))) differs
 
-    -- where the next one has the fault of the last, the first ones stay
+    -- the first items stay, if the next item has the fault of the last of them
     pub next_kept : is_next fault_of (slice_get first (length first - 1)) next ≡ false → AreFirsts fault_of rank (done ++ next ∷ []) first
     next_kept old = by (last_or_none first) where
       tie : (o : Ordering) → not (is_eq o) ≡ false → o ≡ Equal
@@ -154,7 +154,7 @@ module _ {T : Type 0} (fault_of : T → Fault) (rank : T → T → Ordering) (to
           covered last (subst (λ xs. Contains xs last) (sym is) (Contains-append_right front (last ∷ []) last (has_first last [])))
           (tie (fault_cmp (fault_of last) (fault_of next)) (sym (ap (λ l. is_next fault_of l next) at) ∙ old))
 
-    -- where it has another fault, it is one of them
+    -- the next item is one of the first items, if it has another fault than the last of them
     pub next_added : is_next fault_of (slice_get first (length first - 1)) next ≡ true → AreFirsts fault_of rank (done ++ next ∷ []) (first ++ next ∷ [])
     next_added new = added (by (last_or_none first)) where
       differs : (o : Ordering) → not (is_eq o) ≡ true → o ≢ Equal
@@ -176,7 +176,7 @@ module _ {T : Type 0} (fault_of : T → Fault) (rank : T → T → Ordering) (to
       let far = sorted_far (λ a b. is_lt (item_cmp fault_of rank a b)) (ranks_by items_total (λ (item : T). item)) xs sorted i j d (omega arith) within in
       true≢false (sym (ap is_lt e) ∙ far)
 
-  -- in another order
+  -- the first items by fault of a list are those of the list in another order
   pub same_members : (all sorted first : List T) → IsPermutation all sorted → AreFirsts fault_of rank sorted first → AreFirsts fault_of rank all first
   same_members all sorted first same firsts =
       record {
@@ -220,7 +220,7 @@ module _ {T : Type 0} (fault_of : T → Fault) (rank : T → T → Ordering) (to
   merging_ends all first merging =
       same_members all (merging.done ++ []) first merging.permuted (subst (λ xs. AreFirsts fault_of rank xs first) (sym (append-nil merging.done)) merging.firsts)
 
-  -- an item more is passed, and taken where its fault is another than that of the last one
+  -- the next item of the sorted list is passed, and taken if its fault is another than that of the last item taken
   pub merging_step : (all left first : List T) (next : T) → Merging all (next ∷ left) first
       → Merging all left (if is_next fault_of (slice_get first (length first - 1)) next then first ++ next ∷ [] else first)
   merging_step all left first next merging = by (is_next fault_of (slice_get first (length first - 1)) next) refl where

@@ -20,7 +20,7 @@ use Rattle.graph_form.specs.declared.node.Branch.{Branch}
 use Rattle.graph_form.specs.declared.node.Branch.TheVariants.{Go, End}
 use Rattle.graph_form.specs.declared.node.Node.{Node}
 
--- a test after one that fails
+-- a test and one that fails fail together
 pub fails_after : (a b : Bool) → b ≡ false → (a && b) ≡ false
 fails_after true b e = e
 fails_after false b e = refl
@@ -53,7 +53,8 @@ module _ (shows : State → Branch → Bool) (graph : PlainGraph) (rtype : RrTyp
   abbrev pub LeavesUntaken : Bool → ℕ → ℕ → Type 0
   LeavesUntaken taken at number = (numbers : List ℕ) → takes_from shows graph rtype (number ∷ numbers) taken at ≡ false
 
-  -- a branch behind which there is none
+  -- the branch completes no path with a branch that shows: its node is barren, or it is an end and none was taken
+  -- before
   abbrev pub LeadsNowhere : Bool → Branch → Type 0
   LeadsNowhere taken (Go hop to) = IsBarren shows graph rtype taken to
   LeadsNowhere taken (End hop leaf) = taken ≡ false
@@ -65,7 +66,7 @@ module _ (shows : State → Branch → Bool) (graph : PlainGraph) (rtype : RrTyp
   nowhere_passes taken at number node (End hop leaf) has nowhere numbers =
       by_number numbers taken at number node (End hop leaf) has ∙ fails_after (length numbers == 0) _ nowhere
 
-  -- so where the branch with the number, if there is one, leads nowhere
+  -- no path by the branch with a number takes one that shows, if the branch, where there is one, leads nowhere
   pub passes : (taken : Bool) (at number : ℕ)
       → ((node : Node) (branch : Branch) → HasBranch graph rtype at number node branch → LeadsNowhere (taken || shows node.state branch) branch)
       → LeavesUntaken taken at number
@@ -90,7 +91,7 @@ module _ (shows : State → Branch → Bool) (graph : PlainGraph) (rtype : RrTyp
 
   -- ---- the first path
 
-  -- the branches before this one lead nowhere, and a path is first from the node behind it: so it is with this number
+  -- a branch with a first path behind it begins the first path from its node, if the branches before it lead nowhere
   pub goes_first : (taken : Bool) (at number to : ℕ) (hop : Hop) (node : Node) (rest : List ℕ) → HasBranch graph rtype at number node (Go hop to)
       → ((j : ℕ) → j < number → LeavesUntaken taken at j) → IsFirstFrom shows graph rtype (taken || shows node.state (Go hop to)) to rest
       → IsFirstFrom shows graph rtype taken at (number ∷ rest)
@@ -105,7 +106,7 @@ module _ (shows : State → Branch → Bool) (graph : PlainGraph) (rtype : RrTyp
           (sym (by_number others taken at number node (Go hop to) has)
           ∙ (ap (λ n. takes_from shows graph rtype (n ∷ others) taken at) (sym same) ∙ takes)))
 
-  -- and where this one is an end that shows
+  -- a branch that is an end that shows is the first path from a node, if the branches before it lead nowhere
   pub ends_first : (taken : Bool) (at number : ℕ) (hop : Option Hop) (leaf : Leaf) (node : Node) → HasBranch graph rtype at number node (End hop leaf)
       → ((j : ℕ) → j < number → LeavesUntaken taken at j) → (taken || shows node.state (End hop leaf)) ≡ true
       → IsFirstFrom shows graph rtype taken at (number ∷ [])
@@ -139,7 +140,7 @@ module _ (shows : State → Branch → Bool) (graph : PlainGraph) (rtype : RrTyp
   AreTurns start (turn ∷ below) =
       ((j : ℕ) → j < turn.number → LeavesUntaken turn.taken turn.node j) × LedTo start below turn.taken turn.node
 
-  -- those before the last one are such
+  -- the turns before the last one lead from the start, each to the next
   pub turns_below : (start : ℕ) (below : List Turn) (taken : Bool) (at : ℕ) → LedTo start below taken at → AreTurns start below
   turns_below start [] taken at led = tt
   turns_below start (turn ∷ below) taken at led = (led.before, led.rest)
@@ -181,7 +182,7 @@ module _ (shows : State → Branch → Bool) (graph : PlainGraph) (rtype : RrTyp
   abbrev pub BarrenStarts : ℕ → Type 0
   BarrenStarts number = (k at : ℕ) → k < number → slice_get graph.starts k ≡ Some at → IsBarren shows graph rtype false at
 
-  -- so is one more, if it is
+  -- the starts before one and that one are barren, if it is
   pub barren_start_more : (number start : ℕ) → slice_get graph.starts number ≡ Some start → IsBarren shows graph rtype false start → BarrenStarts number
       → BarrenStarts (number + 1)
   barren_start_more number start is barren before k at less is_at =
@@ -218,7 +219,7 @@ module _ (shows : State → Branch → Bool) (graph : PlainGraph) (rtype : RrTyp
           (λ same. first.first others
           (sym (by_start others) ∙ (ap (λ n. takes_along shows graph rtype (n ∷ others)) (sym same) ∙ takes)))
 
-  -- and where all starts are barren there is none
+  -- if all starts are barren, no path takes a branch that shows
   pub none_along : BarrenStarts (length graph.starts) → (numbers : List ℕ) → takes_along shows graph rtype numbers ≡ false
   none_along before [] = refl
   none_along before (number ∷ numbers) =

@@ -79,7 +79,7 @@ fault_itself a = by (fault_cmp a a) (faults_total.antisymm a a) where
 
 -- ---- pairs of a list
 
--- an item of the front and one of the rest
+-- an item of the first of two lists in a row is related to each item of the second, if each two are
 pub pairs_across : {X : Type 0} (R : X → X → Type 0) (xs ys : List X) → AllPairs R (xs ++ ys) → (x y : X) → Contains xs x → Contains ys y → R x y
 pairs_across R [] ys all x y has there = absurd (none_in_nil x has)
 pairs_across R (z ∷ xs) ys all x y has there =
@@ -108,7 +108,7 @@ at_end {X = X} front last = ap (slice_get (front ++ last ∷ [])) (one_less fron
 
 -- ---- of each fault the first type
 
--- the order of the types with one fault
+-- the order of what is seen with one fault: by type
 abbrev pub type_rank : Seen → Seen → Ordering
 type_rank a b = nat_cmp (number_of a.rtype) (number_of b.rtype)
 
@@ -134,6 +134,6 @@ are_first_types all first firsts =
           };
     }
 
--- of nothing seen there is no first type
+-- nothing that was seen has no first types
 pub none_yet : AreFirstTypes [] []
 none_yet = record { ordered = λ i j d less within. absurd (omega arith); from = λ seen has. has; covers = λ seen has. absurd (none_in_nil seen has) }

@@ -209,7 +209,7 @@ module _ (setting : Setting) (query : Labels) (graph : PlainGraph) (rtype : RrTy
           (new_beside walk other.leaf shows.second (λ same. shows.differ (sym (same_answers walk.leaf one.leaf e) ∙ same))),
     )
 
-    -- and beside a walk some path ends in another one
+    -- if the graph shows differing answers, beside any walk some path ends in another answer
     pub other_shown : (walk : Walk) → GraphShows graph rtype differ
         → (numbers : List ℕ) × (takes_along (branch_shows differ (walk ∷ [])) graph rtype numbers ≡ true)
     other_shown walk (paths, walks, shows) =
@@ -261,12 +261,13 @@ module _ (setting : Setting) (query : Labels) (graph : PlainGraph) (rtype : RrTy
             first = no_pair_before;
           }
 
-    -- the first walk, and then the first with another leaf
+    -- the first walk that shows an answer, and then the first with another leaf, are the first pair that shows
+    -- differing answers
     pub first_pair : (one other : Walk) → IsFirstWalk (branch_shows differ []) graph rtype one
         → IsFirstWalk (branch_shows differ (one ∷ [])) graph rtype other → AreFirst graph rtype differ (one ∷ other ∷ [])
     first_pair one other (numbers, first, is_one) (later, second, is_other) = are_first one other numbers later first second is_one is_other
 
-  -- where the graph shows a fault, some path takes a branch that does
+  -- if the graph shows a fault, some path takes a branch that shows it
   pub some_path : (fault : Fault) → GraphShows graph rtype fault → (numbers : List ℕ) × (takes_along (branch_shows fault []) graph rtype numbers ≡ true)
   some_path (faults.Lame cut) shows = single_shown (faults.Lame cut) (λ class t e. cc) shows
   some_path (faults.Differs cut) shows = single_shown (faults.Differs cut) (λ class t e. cc) shows

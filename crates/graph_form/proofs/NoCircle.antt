@@ -25,7 +25,7 @@ use Rattle.graph_form.proofs.FirstPaths.{LedTo}
 use Rattle.graph_form.proofs.Paths.{same_item}
 use Rattle.graph_form.proofs.Places.{PairAt, pair_at, item_there, place_of_item}
 
--- what all items of a list are, the one at a place is
+-- what holds of all items of a list holds of the one at a place
 pub at_place : {A : Type 0} (P : A → Type 0) (xs : List A) (k : ℕ) (x : A) → AllByRecursion P xs → slice_get xs k ≡ Some x → P x
 at_place P [] k x all e = cc
 at_place P (y ∷ ys) zero x all e = let same : y ≡ x = cc in subst P same all.0
@@ -71,7 +71,7 @@ module _ (setting : Setting) (query : Labels) (graph : PlainGraph) (rtype : RrTy
           there = sym (ap (λ arm. slice_get (option_map_or (λ (a : Arm). a.branches) arm []) number) e) ∙ there;
         }
 
-  -- so it tells a step of the node's state
+  -- a branch of a node for a type tells a step of the node's state
   pub told_step : (at number : ℕ) (node : Node) (branch : Branch) → HasBranch graph rtype at number node branch
       → (other : step.Branch) × (slice_get (next setting rtype node.state) number ≡ Some other) × TellsStep graph branch other
   told_step at number node branch has =
@@ -191,7 +191,7 @@ module _ (setting : Setting) (query : Labels) (graph : PlainGraph) (rtype : RrTy
           ];
         }
 
-    -- so no branch of the last node leads to one of them, or to itself
+    -- no branch of the last node leads to one of the nodes before it, or to itself
     pub no_circle : (below : List Turn) (taken : Bool) (at number to : ℕ) (hop : Hop) (node : Node) → LedTo shows graph rtype begin below taken at
         → HasBranch graph rtype at number node (Go hop to) → ((to ≡ at) ⊎ ((turn : Turn) × Contains below turn × (turn.node ≡ to))) → ⊥
     unfolding NearAt

@@ -6,7 +6,7 @@ use Rattle.net_model.specs.declared.walk.State.{State}
 use Rattle.graph_form.specs.Graph.{arm_pairs, types_of}
 use Rattle.graph_form.specs.declared.node.Arm.{Arm}
 
--- one for each of its types
+-- an arm has a pair for each of its types
 pub arm_count : (state : State) (arm : Arm) → length (arm_pairs state arm) ≡ length (types_of arm)
 arm_count state arm =
     let pair : RrType → State × RrType = λ rtype. (state, rtype) in

@@ -5,11 +5,11 @@ use Rattle.std.specs.Option.{unwrap_or}
 use Rattle.std.proofs.lemmas.Bool.{cases_eq}
 use Rattle.std.proofs.lemmas.Option.{unwrap_or-slice_get}
 
--- of the items from a place on and before another none passes
+-- none of the items from one place on and before another passes the test
 abbrev pub NonePasses : {A : Type 0} → (A → Bool) → List A → ℕ → ℕ → Type 0
 NonePasses {A = A} test xs from to = (number : ℕ) (x : A) → from ≤ number → number < to → slice_get xs number ≡ Some x → test x ≡ false
 
--- nor does one more
+-- no item passes up to one place more, if the one there fails the test
 pub none_passes_more : {A : Type 0} (test : A → Bool) (xs : List A) (from i : ℕ) (item : A) → item ≡ get_or xs i item → test item ≡ false
     → NonePasses test xs from i → NonePasses test xs from (i + 1)
 none_passes_more test xs from i item is fails none number x low high there =

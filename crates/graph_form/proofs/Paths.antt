@@ -19,7 +19,7 @@ use Rattle.graph_form.specs.declared.node.Branch.TheVariants.{Go, End}
 use Rattle.graph_form.specs.declared.node.Node.{Node}
 use Rattle.graph_form.proofs.Places.{PairAt, pair_at}
 
--- one node of a list at a place
+-- two values that the same option has are equal
 pub same_item : {A : Type 0} (found : Option A) (x y : A) → found ≡ Some x → found ≡ Some y → x ≡ y
 same_item found x y one other = cc
 
@@ -78,7 +78,7 @@ module _ (setting : Setting) (query : Labels) (graph : PlainGraph) (rtype : RrTy
           (pair_at (TellsStep graph) arm.branches (next setting rtype node.state) (is.steps at node arm rtype in_graph found.1) number)
           (is.closed at node arm rtype in_graph found.1) rest
 
-  -- and so with the starts
+  -- numbers lead from the graph's starts along the walk along which they lead from the query's start states
   pub path_is_walk : (numbers : List ℕ) → path_along graph rtype numbers ≡ walk_along setting query rtype numbers
   path_is_walk [] = refl
   path_is_walk (number ∷ numbers) = by (pair_at (HasState graph) graph.starts (start setting.config query) is.starts number) where

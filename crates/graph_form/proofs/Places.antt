@@ -7,7 +7,7 @@ use Rattle.std.specs.List.{AllZip, flat_map}
 pub use Rattle.dns_data.proofs.Searches.{found_there}
 use Rattle.dns_data.proofs.Membership.{none_in_nil, has_first, has_later, first_or_later, all_from_contains, from_flat_map, pairs_first, pairs_rest}
 
--- two lists have an item at a place, or neither has; and those that both have are a pair
+-- the two lists both have an item at the place, and the two are a pair
 pub record PairAt {A B : Type 0} (R : A → B → Type 0) (xs : List A) (ys : List B) (k : ℕ) : Type 0 where
   pub one : A
   pub other : B
@@ -16,7 +16,7 @@ pub record PairAt {A B : Type 0} (R : A → B → Type 0) (xs : List A) (ys : Li
   pub paired : R one other
   pub has : Contains xs one
 
--- at each place two lists of pairs both have an item, and the two are a pair, or neither has
+-- at each place two lists of pairs both have an item of a pair, or neither has an item
 pub pair_at : {A B : Type 0} (R : A → B → Type 0) (xs : List A) (ys : List B) → AllZip R xs ys → (k : ℕ)
     → ((slice_get xs k ≡ None) × (slice_get ys k ≡ None)) ⊎ PairAt R xs ys k
 pair_at R [] [] all k = inl (refl, refl)
@@ -38,7 +38,7 @@ count_next f xs i x below is =
     ap (λ left. length (flat_map f left)) (drop-cons xs i x below ∙ (ap (λ one. one ∷ drop (suc i) xs) (sym is) ∙ ap (λ n. x ∷ drop n xs) next))
     ∙ length-append (f x) (flat_map f (drop (i + 1) xs))
 
--- an item at a place is one of the list
+-- an item at a place of a list is one of its items
 pub item_there : {A : Type 0} (xs : List A) (k : ℕ) (x : A) → slice_get xs k ≡ Some x → Contains xs x
 item_there [] k x e = cc
 item_there (y ∷ xs) zero x e =
@@ -46,7 +46,7 @@ item_there (y ∷ xs) zero x e =
     subst (Contains (y ∷ xs)) same (has_first y xs)
 item_there (y ∷ xs) (suc k) x e = has_later y xs x (item_there xs k x e)
 
--- and an item of the list stands at a place
+-- an item of a list stands at a place of it
 pub place_of_item : {A : Type 0} (xs : List A) (x : A) → Contains xs x → (k : ℕ) × (slice_get xs k ≡ Some x)
 place_of_item [] x has = absurd (none_in_nil x has)
 place_of_item (y ∷ xs) x has = by (first_or_later y xs x has) (place_of_item xs x) where
@@ -54,7 +54,8 @@ place_of_item (y ∷ xs) x has = by (first_or_later y xs x has) (place_of_item x
   by (inl same) later = (0, ap Some same)
   by (inr behind) later = let there = later behind in (suc there.0, there.1)
 
--- the items of two lists one after the other
+-- each two items of two lists in a row are related, if those of each list are and those of the first to those of the
+-- second
 pub pairs_joined : {B : Type 0} (R : B → B → Type 0) (xs ys : List B) → AllPairs R xs → AllPairs R ys
     → ((x y : B) → Contains xs x → Contains ys y → R x y) → AllPairs R (xs ++ ys)
 pairs_joined R [] ys one other across = other

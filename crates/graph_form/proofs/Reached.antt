@@ -105,7 +105,7 @@ module _ (setting : Setting) (query : Labels) (graph : PlainGraph) (rtype : RrTy
           (λ hop to same. is.closed at node arm rtype in_graph there.1 hop to (item_there arm.branches number (Go hop to) same))
           (pair_there graph at node arm rtype here there.0 there.1) rest
 
-  -- so are those of a walk of the query
+  -- the states of a walk of the query with the type are in the graph with it
   pub walk_kept : (numbers : List ℕ) (walk : Walk) → walk_along setting query rtype numbers ≡ Some walk → Kept walk
   walk_kept numbers walk e = by numbers (path_is_walk setting query graph rtype is numbers ∙ e) where
     by_start : (numbers : List ℕ) (number : ℕ) (start : Option ℕ) → slice_get graph.starts number ≡ start
@@ -120,7 +120,7 @@ module _ (setting : Setting) (query : Labels) (graph : PlainGraph) (rtype : RrTy
 
 -- ---- no pair stands twice
 
--- the two aren't one
+-- the two aren't equal
 abbrev pub Differ : {A : Type 0} → A → A → Type 0
 Differ a b = a ≢ b
 
@@ -194,7 +194,7 @@ state_told node pair has =
     let from = from_flat_map (arm_pairs node.state) node.arms pair has in
     (of_arm node.state from.0 pair from.2).state_is
 
--- so no pair of the graph stands twice
+-- no pair of state and type stands in the graph twice, if no two nodes have equal states
 pub pairs_once : (setting : Setting) (query : Labels) (graph : PlainGraph) → IsGraphOf setting query graph
     → AllPairs (λ a b. a.state ≢ b.state) graph.nodes → AllPairs Differ (pairs_of graph)
 pairs_once setting query graph is one_node =

@@ -223,7 +223,7 @@ module _ (graph : PlainGraph) (rtype : RrType) where
       pub hops_before : List Hop
       pub hops_are : walk.hops ≡ hops_before ++ option_to_list hop
 
-    -- so each branch that is an end ends one
+    -- each branch that is an end ends a walk of the query
     pub walk_by : (at number : ℕ) (node : Node) (hop : Option Hop) (leaf : Leaf) → HasBranch graph rtype at number node (End hop leaf) → WalkBy node hop leaf
     walk_by at number node hop leaf has =
         let to = reached at number node (End hop leaf) has in

@@ -26,7 +26,7 @@ use Rattle.graph_form.proofs.NoCircle.{no_circle}
 pub last_first : (path : List Turn) (turn : Turn) → reverse (path ++ turn ∷ []) ≡ turn ∷ reverse path
 last_first path turn = reverse-append path (turn ∷ [])
 
--- the numbers of the turns and of one more
+-- the numbers of a path's turns with one turn more are those of the turns and its number
 pub numbers_more : (path : List Turn) (turn : Turn) → map (λ (t : Turn). t.number) (reverse (reverse path)) ++ turn.number ∷ []
     ≡ map (λ (t : Turn). t.number) (path ++ turn ∷ [])
 numbers_more path turn =
@@ -72,7 +72,7 @@ was_set (mark ∷ marks) zero (suc k) less e = inr e
 was_set (mark ∷ marks) (suc i) zero less e = inr e
 was_set (mark ∷ marks) (suc i) (suc k) less e = elim (was_set marks i k (omega arith) e) [ inl same ↦ inl (ap suc same) | inr was ↦ inr was ]
 
--- at first none is
+-- before the search no node is marked as met
 pub none_met : (size k : ℕ) → slice_get (replicate size false) k ≡ Some true → ⊥
 none_met zero k e = cc
 none_met (suc size) zero e = cc
@@ -88,7 +88,7 @@ item_at (x ∷ xs) (suc k) less = item_at xs k (omega arith)
 abbrev pub unmet : List Bool → ℕ
 unmet marks = sum_by (λ mark. if mark then 0 else 1) marks
 
--- one less where one is set that wasn't
+-- if a mark is set that wasn't, one mark less isn't set
 pub one_less : (marks : List Bool) (i : ℕ) → slice_get marks i ≡ Some false → unmet (set marks i true) + 1 ≡ unmet marks
 one_less marks i not_set =
     let within : i < length marks = slice_get_within marks i false not_set in
@@ -165,7 +165,7 @@ module _ (shows : State → Branch → Bool) (graph : PlainGraph) (rtype : RrTyp
     left_barren turn below met search closed =
         barren_by shows graph rtype turn.taken turn.node (λ number. passed turn below met None search closed number tt)
 
-    -- and the search goes back
+    -- if no branch of the last node is to be followed, the search goes on from the node before
     pub goes_back : (turn : Turn) (below : List Turn) (met : List Bool) → IsSearch begin (turn ∷ below) met
         → ArePassed shows graph rtype met turn None → IsSearch begin below met
     goes_back turn below met search closed =
@@ -206,14 +206,15 @@ module _ (shows : State → Branch → Bool) (graph : PlainGraph) (rtype : RrTyp
           let same : other ≡ to = cc in
           of_mark (slice_get met (met_mark to onward.taken)) (subst (λ n. option_map_or not (slice_get met (met_mark n onward.taken)) false ≡ true) same e)
 
-    -- the turn with the branch that is followed, and the one behind it
+    -- the turn at a node with the branch that is followed as its number
     abbrev pub followed : Turn → Onward → Turn
     followed turn onward = record turn { number = onward.number }
 
+    -- the turn of the search that begins at the node behind a followed branch, at its first branch
     abbrev pub behind : Onward → ℕ → Turn
     behind onward to = record { node = to; taken = onward.taken; number = 0 }
 
-    -- and the search goes on there
+    -- if the branch to follow goes to a node, the search goes on there
     pub goes_on : (turn : Turn) (below : List Turn) (met : List Bool) (onward : Onward) (to : ℕ) → IsSearch begin (turn ∷ below) met
         → ArePassed shows graph rtype met turn (Some onward) → IsToFollowAt shows graph rtype met turn onward → onward.to ≡ Some to
         → IsSearch begin (behind onward to ∷ followed turn onward ∷ below) (set met (met_mark to onward.taken) true)

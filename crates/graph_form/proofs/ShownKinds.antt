@@ -31,7 +31,7 @@ use Rattle.graph_form.proofs.TakenPaths.{ended, path_parts, IsRest, Tells}
 
 -- ---- what is equal
 
--- names that are equal are one
+-- names that the test finds equal are the same
 pub same_name : (a b : Labels) → name_eq a b ≡ true → a ≡ b
 same_name a b e = (name_eq_decides a b).0 e
 
@@ -39,7 +39,7 @@ same_name a b e = (name_eq_decides a b).0 e
 pub name_itself : (a : Labels) → name_eq a a ≡ true
 name_itself a = (name_eq_decides a a).1 refl
 
--- places that are equal are one
+-- places that the test finds equal are the same
 pub same_place : (a b : Place) → place_eq a b ≡ true → a ≡ b
 same_place a b e =
     let both = and_parts (name_eq a.server b.server && name_eq a.zone b.zone) (name_eq a.owner b.owner) e in
@@ -311,7 +311,7 @@ module _ (graph : PlainGraph) (rtype : RrType) where
       back (leaves.Overlong other) e = ap (λ p. leaves.Overlong p) (sym (same_place place other e))
       back leaf e = cc
 
-    -- of each fault the branches that show it tell the walks that take it
+    -- for each fault, the branches that show it tell which walks take it
     pub tells : (fault : Fault) (walks : List Walk) → Tells graph rtype (IsTaken fault walks) (branch_shows fault walks)
     tells (faults.Lame cut) walks =
         tells_behind (faults.Lame cut) walks cut (leaves.Lame cut.ns) refl (λ hop. refl) (by_lame cut) (λ last hop leaf. refl)

@@ -21,14 +21,14 @@ use Rattle.graph_form.proofs.FirstPaths.{by_number}
 abbrev pub ended : State → Option Hop → Leaf → Walk
 ended state hop leaf = record { states = state ∷ []; hops = option_to_list hop; leaf = leaf }
 
--- more numbers are left
+-- a list with a number in front isn't empty
 pub not_last : (number : ℕ) (numbers : List ℕ) → (length (number ∷ numbers) == 0) ≡ false
 not_last number numbers = grind (arith, nat_tests)
 
 module _ (graph : PlainGraph) (rtype : RrType) where
   -- ---- the walk of a path, by its first branch
 
-  -- the path with a number in front goes by the branch that the node has under it
+  -- the path with a number in front goes by the node's branch with this number
   pub path_by : (numbers : List ℕ) (at number : ℕ) (node : Node) (branch : Branch) → HasBranch graph rtype at number node branch
       → path_from graph rtype (number ∷ numbers) at ≡ by_branch (path_from graph rtype numbers) node.state (length numbers == 0) (Some branch)
   path_by numbers at number node branch has =
@@ -98,7 +98,8 @@ module _ (graph : PlainGraph) (rtype : RrType) where
 
   -- ---- which paths take a branch that shows
 
-  -- of a branch it is told whether walks show by it
+  -- a walk of the graph has the property exactly if a branch of it shows, by which the property is told branch by
+  -- branch
   pub record Tells (P : Walk → Type 0) (shows : State → Branch → Bool) : Type 0 where
     pub at_end : (at number : ℕ) (node : Node) (hop : Option Hop) (leaf : Leaf) → HasBranch graph rtype at number node (End hop leaf)
         → P (ended node.state hop leaf) → shows node.state (End hop leaf) ≡ true
@@ -110,7 +111,7 @@ module _ (graph : PlainGraph) (rtype : RrType) where
         → P (led_on state hop later)
 
   module _ (P : Walk → Type 0) (shows : State → Branch → Bool) (tells : Tells P shows) where
-    -- a path whose walk shows takes one
+    -- a path from a node whose walk has the property takes a branch that shows
     pub takes_shown : (numbers : List ℕ) (at : ℕ) (taken : Bool) (walk : Walk) → path_from graph rtype numbers at ≡ Some walk
         → (taken ≡ true) ⊎ P walk → takes_from shows graph rtype numbers taken at ≡ true
     takes_shown [] at taken walk e so = cc
@@ -142,7 +143,7 @@ module _ (graph : PlainGraph) (rtype : RrType) where
             ap (λ ns. takes_from shows graph rtype (number ∷ ns) taken at) end.none_left
             ∙ (by_number shows graph rtype [] taken at number end.node (End end.hop end.leaf) end.has ∙ by_end end so)
 
-    -- and the walk of a path that takes one shows
+    -- the walk of a path from a node that takes a branch that shows has the property
     pub shown_taken : (numbers : List ℕ) (at : ℕ) (taken : Bool) (walk : Walk) → path_from graph rtype numbers at ≡ Some walk
         → takes_from shows graph rtype numbers taken at ≡ true → (taken ≡ true) ⊎ P walk
     shown_taken [] at taken walk e takes = cc
@@ -176,7 +177,7 @@ module _ (graph : PlainGraph) (rtype : RrType) where
             by_end end (sym (by_number shows graph rtype [] taken at number end.node (End end.hop end.leaf) end.has)
             ∙ (ap (λ ns. takes_from shows graph rtype (number ∷ ns) taken at) (sym end.none_left) ∙ takes))
 
-  -- a path that takes one is whole
+  -- a path that takes a branch that shows is whole
   pub taken_whole : (shows : State → Branch → Bool) (numbers : List ℕ) (at : ℕ) (taken : Bool) → takes_from shows graph rtype numbers taken at ≡ true
       → (walk : Walk) × (path_from graph rtype numbers at ≡ Some walk)
   taken_whole shows [] at taken takes = cc
@@ -213,7 +214,7 @@ module _ (graph : PlainGraph) (rtype : RrType) where
   -- ---- from the starts
 
   module _ (P : Walk → Type 0) (shows : State → Branch → Bool) (tells : Tells P shows) where
-    -- a path whose walk is so takes a branch that shows
+    -- a path from a start whose walk has the property takes a branch that shows
     pub takes_along_shown : (numbers : List ℕ) (walk : Walk) → path_along graph rtype numbers ≡ Some walk → P walk
         → takes_along shows graph rtype numbers ≡ true
     takes_along_shown [] walk e shown = cc
@@ -225,7 +226,7 @@ module _ (graph : PlainGraph) (rtype : RrType) where
           ap (λ start. option_map_or (takes_from shows graph rtype numbers false) start false) is
           ∙ takes_shown P shows tells numbers at false walk e (inr shown)
 
-    -- and a path that takes one has such a walk
+    -- the walk of a path from a start that takes a branch that shows has the property
     pub shown_along : (numbers : List ℕ) (walk : Walk) → path_along graph rtype numbers ≡ Some walk
         → takes_along shows graph rtype numbers ≡ true → P walk
     shown_along [] walk e takes = cc

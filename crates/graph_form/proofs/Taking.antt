@@ -6,7 +6,7 @@ use Rattle.net_model.specs.declared.walk.Walk.{Walk}
 use Rattle.net_model.specs.Shown.{FaultSetting, WalksShow}
 use Rattle.graph_form.specs.Trails.{WalksTake, ZonesShow}
 
--- what walks show, they take
+-- walks that show a fault show by themselves what the fault takes of walks
 pub taken : (setting : FaultSetting) (walks : List Walk) (fault : Fault) → WalksShow setting walks fault → WalksTake walks fault
 taken setting (walk ∷ []) (faults.Lame cut) shows = shows
 taken setting (walk ∷ []) (faults.Differs cut) shows = shows.refers
@@ -20,7 +20,7 @@ taken setting (walk ∷ []) (faults.Overlong place) shows = shows
 taken setting (walk ∷ []) (faults.NoAddress cut) shows = record { behind = shows.behind; ends = shows.ends }
 taken setting walks fault shows = absurd shows
 
--- and the zones show it
+-- if walks show a fault, the zones show what the fault takes of zones
 pub zones : (setting : FaultSetting) (walks : List Walk) (fault : Fault) → WalksShow setting walks fault → ZonesShow setting fault
 zones setting (walk ∷ []) (faults.Lame cut) shows = tt
 zones setting (walk ∷ []) (faults.Differs cut) shows = shows.zones
@@ -34,7 +34,7 @@ zones setting (walk ∷ []) (faults.Overlong place) shows = tt
 zones setting (walk ∷ []) (faults.NoAddress cut) shows = shows.not_at_most
 zones setting walks fault shows = absurd shows
 
--- the other way round
+-- walks that show by themselves what a fault takes of walks show it, if the zones show what it takes of zones
 pub shown : (setting : FaultSetting) (walks : List Walk) (fault : Fault) → WalksTake walks fault → ZonesShow setting fault → WalksShow setting walks fault
 shown setting (walk ∷ []) (faults.Lame cut) take hold = take
 shown setting (walk ∷ []) (faults.Differs cut) take hold = record { refers = take; zones = hold }

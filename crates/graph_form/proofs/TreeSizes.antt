@@ -27,7 +27,7 @@ module _ (ground : Ground) where
       same_rising name_cmp names_total a b p.ordered q.ordered
       (λ above has. (q.all above).1 ((p.all above).0 has)) (λ above has. (p.all above).1 ((q.all above).0 has))
 
-  -- two sizes of the class tree below a name, in names and in classes, are one
+  -- two sizes of the same part of the class tree, in names and in classes, are equal
   pub one_size : (above : Labels) (names classes names' classes' : ℕ) → IsTreeSize ground above names classes → IsTreeSize ground above names' classes'
       → (names ≡ names') × (classes ≡ classes')
   one_size above names classes names' classes' p q =

@@ -20,7 +20,7 @@ any_of_four false true false d = refl
 any_of_four false false c d = refl
 
 module _ {A : Type 0} (eq : A → A → Bool) (turned : (x y : A) → eq x y ≡ eq y x) where
-  -- one more item
+  -- with one item more two items are equal, if two were before or an earlier one equals it
   pub twice_more : (xs : List A) (x : A) → equal_twice eq (xs ++ x ∷ []) ≡ (equal_twice eq xs || list_any (eq x) xs)
   twice_more [] x = refl
   twice_more (y ∷ ys) x =
@@ -28,13 +28,13 @@ module _ {A : Type 0} (eq : A → A → Bool) (turned : (x y : A) → eq x y ≡
       ∙ (ap (λ b. (list_any (eq y) ys || eq x y) || b) (twice_more ys x)
       ∙ any_of_four (list_any (eq y) ys) (eq x y) (equal_twice eq ys) (list_any (eq x) ys))
 
-  -- the next item of a list
+  -- two of the items up to the next are equal, if two before it are or one of them equals it
   pub twice_next : (xs : List A) (i : ℕ) (x : A) → i < length xs → x ≡ get_or xs i x
       → equal_twice eq (take (i + 1) xs) ≡ (equal_twice eq (take i xs) || list_any (eq x) (take i xs))
   twice_next xs i x below is =
       ap (equal_twice eq) (take_more xs i x below ∙ ap (λ y. take i xs ++ y ∷ []) (sym is)) ∙ twice_more (take i xs) x
 
-  -- two of the front are two of all
+  -- if two items of a front are equal, two of the front with more behind it are
   pub twice_within : (xs ys : List A) → equal_twice eq xs ≡ true → equal_twice eq (xs ++ ys) ≡ true
   twice_within [] ys e = cc
   twice_within (x ∷ xs) ys e = by (list_any (eq x) xs) refl e (λ twice. twice_within xs ys twice) where
@@ -45,7 +45,7 @@ module _ {A : Type 0} (eq : A → A → Bool) (turned : (x y : A) → eq x y ≡
         (list_any-append (eq x) xs ys ∙ or_left (list_any (eq x) xs) (list_any (eq x) ys) has)
     by false has e rest = or_right (list_any (eq x) (xs ++ ys)) (equal_twice eq (xs ++ ys)) (rest e)
 
-  -- where two items of a front are equal, two of the list are
+  -- if two of the first items of a list are equal, two of the list are
   pub twice_in_front : (xs : List A) (i : ℕ) → equal_twice eq (take i xs) ≡ true → equal_twice eq xs ≡ true
   twice_in_front xs i e = ap (equal_twice eq) (sym (take-append-drop i xs)) ∙ twice_within (take i xs) (drop i xs) e
 
@@ -76,7 +76,7 @@ twice_asked (q ∷ questions) (s ∷ states) e =
 
 -- ---- tests
 
--- where neither of two tests passes, the test for either doesn't
+-- if neither of two tests passes, the test for either fails
 pub both_fail : (a b : Bool) → a ≡ false → b ≡ false → (a || b) ≡ false
 both_fail true b e f = cc
 both_fail false b e f = f

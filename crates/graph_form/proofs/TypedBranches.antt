@@ -121,7 +121,7 @@ module _ (setting : Setting) (query : Labels) (graph : PlainGraph) (is : IsGraph
   -- ---- what a function of a branch gives
 
   module _ (faults : State → Branch → List Fault) where
-    -- what each branch of a node gives is so of all that is seen
+    -- what holds of all that each branch of a node gives holds of all that is seen in the graph
     pub each_seen : (P : RrType → Fault → Type 0)
         → ((rtype : RrType) (at number : ℕ) (node : Node) (branch : Branch) (fault : Fault) → HasBranch graph rtype at number node branch
         → Contains (faults node.state branch) fault → P rtype fault)
@@ -135,7 +135,7 @@ module _ (setting : Setting) (query : Labels) (graph : PlainGraph) (is : IsGraph
         (each one.rtype branch.at branch.number branch.node one.branch of.0 branch.has
         (subst (λ (state : State). Contains (faults state one.branch) of.0) (sym branch.state_is) of.1))
 
-    -- and what a branch of a node gives is seen
+    -- what a branch of a node gives is covered by what is seen in the graph
     pub seen_there : (rtype : RrType) (at number : ℕ) (node : Node) (branch : Branch) (fault : Fault) → HasBranch graph rtype at number node branch
         → Contains (faults node.state branch) fault → IsCovered (seen_by faults graph) (record { fault = fault; rtype = rtype })
     seen_there rtype at number node branch fault has among =

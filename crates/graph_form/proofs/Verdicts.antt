@@ -31,7 +31,7 @@ use Rattle.graph_form.proofs.ShownKinds.{none_is_more}
 
 -- ---- the last of a list
 
--- two ways to say it
+-- the last items of equal lists are equal
 pub one_last : {A : Type 0} (xs ys : List A) (x y : A) → xs ++ x ∷ [] ≡ ys ++ y ∷ [] → x ≡ y
 one_last [] [] x y e = cc
 one_last [] (z ∷ ys) x y e = let none : [] ≡ ys ++ y ∷ [] = cc in absurd (none_is_more ys y none)
@@ -41,7 +41,7 @@ one_last (w ∷ xs) (z ∷ ys) x y e = let rest : xs ++ x ∷ [] ≡ ys ++ y ∷
 -- ---- lists that are put behind another, one after the other
 
 module _ {X Y : Type 0} (f : X → List Y) (xs : List X) (i : ℕ) (old mid : List Y) (so_far : mid ≡ old ++ flat_map f (take i xs)) where
-  -- the list of the next item
+  -- the list of the next item is put behind those of the items before it
   pub put_more : (x : X) (new : List Y) → i < length xs → x ≡ get_or xs i x → new ≡ mid ++ f x → new ≡ old ++ flat_map f (take (i + 1) xs)
   put_more x new less is put =
       put ∙ (ap (λ ys. ys ++ f x) so_far
@@ -50,7 +50,7 @@ module _ {X Y : Type 0} (f : X → List Y) (xs : List X) (i : ℕ) (old mid : Li
       (sym (ap (flat_map f) (take_more xs i x less ∙ ap (λ y. take i xs ++ y ∷ []) (sym is))
       ∙ (flat_map-append f (take i xs) (x ∷ []) ∙ ap (λ ys. flat_map f (take i xs) ++ ys) (append-nil (f x)))))))
 
-  -- all
+  -- if all items are passed, the lists of all items are put behind the others
   pub put_all : take i xs ≡ xs → mid ≡ old ++ flat_map f xs
   put_all whole = so_far ∙ ap (λ ys. old ++ flat_map f ys) whole
 
@@ -69,7 +69,7 @@ pairs_at {X = X} R xs all i j a b is_a is_b less =
 abbrev pub Apart : Arm → Arm → Type 0
 Apart a b = (t : RrType) → has_bit a.types t ≡ true → has_bit b.types t ≡ false
 
--- where they are, one that has a type is the arm for it
+-- if the arms of a node are apart in their types, an arm that has a type is the node's arm for it
 pub one_arm : (node : Node) (arm : Arm) (rtype : RrType)
     → AllPairs (λ a b. (t : RrType) → has_bit a.types t ≡ true → has_bit b.types t ≡ false) node.arms
     → Contains node.arms arm → has_bit arm.types rtype ≡ true → arm_of node rtype ≡ Some arm
@@ -90,7 +90,7 @@ one_arm node arm rtype apart has typed =
           ]
         ]
 
--- so its branches are those of the node for the type
+-- the branches of the node's arm for a type are the node's branches for the type
 pub branch_for : (graph : PlainGraph) (at : ℕ) (node : Node) (arm : Arm) (branch : Branch) (rtype : RrType) → slice_get graph.nodes at ≡ Some node
     → arm_of node rtype ≡ Some arm → Contains arm.branches branch → (number : ℕ) × HasBranch graph rtype at number node branch
 branch_for graph at node arm branch rtype here is_arm has =
@@ -108,7 +108,7 @@ branch_for graph at node arm branch rtype here is_arm has =
 abbrev pub Rises : Seen → Seen → Type 0
 Rises a b = fault_cmp a.fault b.fault ≡ Less
 
--- two entries with one fault are one, where faults rise
+-- two entries with the same fault are equal, if faults rise
 pub one_entry : (shown : List Seen) → AllPairs (λ a b. fault_cmp a.fault b.fault ≡ Less) shown → (a b : Seen) → Contains shown a → Contains shown b
     → a.fault ≡ b.fault → a ≡ b
 one_entry [] ordered a b has_a has_b same = absurd (none_in_nil a has_a)

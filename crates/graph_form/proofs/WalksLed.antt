@@ -46,7 +46,7 @@ module _ (graph : PlainGraph) (rtype : RrType) (whole : Option Walk) (states : L
     by_first : whole ≡ option_map (behind states hops) (path_from graph rtype (number ∷ drop (i + 1) numbers) at)
     by_first = is ∙ ap (λ ns. option_map (behind states hops) (path_from graph rtype ns at)) (from_place numbers i number less is_number)
 
-    -- the walk goes on
+    -- if the branch with the next number goes on, the walk goes on by it
     pub led_more : (node : Node) (hop : Hop) (to : ℕ) → HasBranch graph rtype at number node (Go hop to)
         → whole ≡ option_map (behind (states ++ node.state ∷ []) (hops ++ hop ∷ [])) (path_from graph rtype (drop (i + 1) numbers) to)
     led_more node hop to has =
@@ -54,11 +54,11 @@ module _ (graph : PlainGraph) (rtype : RrType) (whole : Option Walk) (states : L
         ∙ (ap (option_map (behind states hops)) (path_by graph rtype (drop (i + 1) numbers) at number node (Go hop to) has)
         ∙ behind_more states hops node.state hop (path_from graph rtype (drop (i + 1) numbers) to))
 
-    -- there is no such branch
+    -- if a node has no branch with the next number, the numbers lead along no walk
     pub led_nowhere : ((ns : List ℕ) → path_from graph rtype (number ∷ ns) at ≡ None) → whole ≡ None
     led_nowhere none = by_first ∙ ap (option_map (behind states hops)) (none (drop (i + 1) numbers))
 
-    -- the walk ends
+    -- if the branch with the last number ends, the walk ends there
     pub led_to_end : (node : Node) (hop : Option Hop) (leaf : Leaf) → HasBranch graph rtype at number node (End hop leaf) → length numbers ≤ i + 1
         → whole ≡ Some (record { states = states ++ node.state ∷ []; hops = hops ++ option_to_list hop; leaf = leaf })
     led_to_end node hop leaf has last =
@@ -66,7 +66,7 @@ module _ (graph : PlainGraph) (rtype : RrType) (whole : Option Walk) (states : L
         ∙ (ap (λ ns. option_map (behind states hops) (path_from graph rtype (number ∷ ns) at)) (none_from numbers (i + 1) last)
         ∙ ap (option_map (behind states hops)) (path_by graph rtype [] at number node (End hop leaf) has))
 
-    -- it ends too early
+    -- if a branch ends before the last number, the numbers lead along no walk
     pub led_too_far : (node : Node) (hop : Option Hop) (leaf : Leaf) → HasBranch graph rtype at number node (End hop leaf) → i + 1 < length numbers → whole ≡ None
     led_too_far node hop leaf has more =
         let next = get_or numbers (i + 1) 0 in

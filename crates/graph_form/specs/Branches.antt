@@ -25,7 +25,7 @@ pub record PlainBranch : Type 0 where
 abbrev pub plain : State → RrType → Branch → PlainBranch
 plain state rtype branch = record { state = state; rtype = rtype; branch = branch }
 
--- what references to one are of
+-- the branch of a state with a type, behind the references of a typed branch
 abbrev pub plain_branch : TypedBranch → PlainBranch
 plain_branch one = plain one.state.now one.rtype one.branch.now
 

@@ -106,28 +106,28 @@ node_takes rest shows rtype number is_last taken None = false
 node_takes rest shows rtype number is_last taken (Some node) =
     takes_by rest shows node.state is_last taken (slice_get (branches_of node rtype) number)
 
--- the path from a node
+-- the path from the node with these numbers is whole, and takes a branch that shows unless one was taken before
 abbrev pub takes_from : (State → Branch → Bool) → PlainGraph → RrType → List ℕ → Bool → ℕ → Bool
 takes_from shows graph rtype [] taken at = false
 takes_from shows graph rtype (number ∷ numbers) taken at =
     node_takes (takes_from shows graph rtype numbers) shows rtype number (length numbers == 0) taken (slice_get graph.nodes at)
 
--- the path from a start
+-- the path from a start with these numbers is whole, and takes a branch that shows
 abbrev pub takes_along : (State → Branch → Bool) → PlainGraph → RrType → List ℕ → Bool
 takes_along shows graph rtype [] = false
 takes_along shows graph rtype (number ∷ numbers) =
     option_map_or (takes_from shows graph rtype numbers false) (slice_get graph.starts number) false
 
--- no path from the node takes such a branch
+-- no whole path from the node takes a branch that shows; if one was taken before, there is no whole path at all
 abbrev pub IsBarren : (State → Branch → Bool) → PlainGraph → RrType → Bool → ℕ → Type 0
 IsBarren shows graph rtype taken at = (numbers : List ℕ) → takes_from shows graph rtype numbers taken at ≡ false
 
--- the path from the node takes such a branch, and no other that does comes before it
+-- of the paths from the node that take a branch that shows, unless one was taken before, this one is the first
 pub record IsFirstFrom (shows : State → Branch → Bool) (graph : PlainGraph) (rtype : RrType) (taken : Bool) (at : ℕ) (numbers : List ℕ) : Type 0 where
   pub takes : takes_from shows graph rtype numbers taken at ≡ true
   pub first : (others : List ℕ) → takes_from shows graph rtype others taken at ≡ true → path_cmp others numbers ≢ Less
 
--- the path from a start takes such a branch, and no other that does comes before it
+-- of the paths from a start that take a branch that shows, this one is the first
 pub record IsFirstAlong (shows : State → Branch → Bool) (graph : PlainGraph) (rtype : RrType) (numbers : List ℕ) : Type 0 where
   pub takes : takes_along shows graph rtype numbers ≡ true
   pub first : (others : List ℕ) → takes_along shows graph rtype others ≡ true → path_cmp others numbers ≢ Less

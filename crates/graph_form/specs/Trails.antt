@@ -44,7 +44,8 @@ pub record PathsTake (graph : PlainGraph) (rtype : RrType) (fault : Fault) (path
   pub are_paths : map (path_along graph rtype) paths ≡ map Some walks
   pub take : WalksTake walks fault
 
--- no other such path, or pair of paths, comes before these
+-- the walks show of the fault what it takes of walks, and no other path of the graph, or pair of paths, that does comes
+-- before theirs
 pub record AreFirst (graph : PlainGraph) (rtype : RrType) (fault : Fault) (walks : List Walk) : Type 0 where
   pub paths : List (List ℕ)
   pub show : PathsTake graph rtype fault paths walks

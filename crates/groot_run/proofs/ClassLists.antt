@@ -26,7 +26,7 @@ text_by_rows (row ∷ rows) =
     ap (λ (text : List ℕ). class_list_text (classes_of_row row) ++ text) (text_by_rows rows)
     ∙ sym (flat_map-append (λ (listed : ListedClass). class_line listed.class listed.representative) (classes_of_row row) (classes_of_rows rows))
 
--- so where rows are those of the configuration's classes, their lines are what `classes` lists
+-- if rows are those of the configuration's classes, their lines are what `classes` lists
 pub lists_classes : (config : Config) (limit : ℕ) (rows viewed : List ClassRow) (ending : Ending) → rows ≡ viewed
     → AreListed (ground_of config) [] (classes_of_rows viewed) → (HasMoreNames config limit → ⊥) → ending ≡ with_output Clean (rows_text rows)
     → ListsClasses limit config ending
@@ -53,7 +53,7 @@ module _ (graph ground : Ground) (same : AreSame graph ground) where
   part_ends_past above limit ending (inl (more, is)) = inl (more_same graph ground same above limit more, is)
   part_ends_past above limit ending (inr ran_out) = inr ran_out
 
-  -- and for the whole tree
+  -- a run that ends since the graph's tree has more names than the limit ends so for the ground's
   pub ends_past : (limit : ℕ) (ending : Ending) → EndsPast (IsInPart graph []) limit ending → EndsPast (IsInTree ground) limit ending
   ends_past limit ending (inl (more, is)) = inl ((more_in_whole ground limit).0 (more_same graph ground same [] limit more), is)
   ends_past limit ending (inr ran_out) = inr ran_out

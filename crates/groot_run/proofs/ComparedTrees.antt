@@ -19,18 +19,18 @@ module _ (two : Compared) (children_of : Labels → List Labels) (tree : (limit 
   few_names : (ReachesMore [] children_of same_names → ⊥) → HasMoreNamesInBoth two same_names → ⊥
   few_names few more = few ((tree same_names).1 more)
 
-  -- a run of the pool that passes its limit
+  -- a comparison whose pool passes its limit ends since the joint tree has too many names
   pub pool_passes : ReachesMore [] children_of same_names → (ending ≡ too_many_names same_names) ⊎ (ending ≡ no_memory) → Compares two ending ⊎ (ending ≡ no_memory)
   pool_passes more (inl is) = inl (inl ((tree same_names).0 more, is))
   pool_passes more (inr ran_out) = inr ran_out
 
-  -- a comparison that is refused
+  -- a comparison that is refused ends since a representative reaches too many pairs
   pub states_pass : (query : Labels) → (ReachesMore [] children_of same_names → ⊥) → IsFirstPassedInOne two query
       → (ending ≡ too_many_states query) ⊎ (ending ≡ no_memory) → Compares two ending ⊎ (ending ≡ no_memory)
   states_pass query few first (inl is) = inl (inr (few_names few, inl (query, first, is)))
   states_pass query few first (inr ran_out) = inr ran_out
 
-  -- one that tells something
+  -- a comparison that tells something ends with what it tells
   pub is_told : (sameness : Sameness) → (ReachesMore [] children_of same_names → ⊥) → (SomeClassPassesInOne two → ⊥) → IsSameness two sameness
       → (ending ≡ told_same sameness) ⊎ (ending ≡ no_memory) → Compares two ending ⊎ (ending ≡ no_memory)
   is_told sameness few none is (inl line) = inl (inr (few_names few, inr (none, record { sameness = sameness; is_sameness = is; as_line = line })))

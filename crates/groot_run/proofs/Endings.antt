@@ -47,7 +47,7 @@ not_loaded told before after meta load_faults.NoMemory ending gives came failed 
 not_loaded told before after meta fault ending gives came failed (inl is) = inl (fault, gives, is)
 
 module _ (told : FilesTold) (before after : List ℕ → ℕ) (of_config : Config → Ending → Type 0) (own meta : List ℕ) (same : own ≡ meta) (ending : Ending) where
-  -- with the configuration, or without one
+  -- a run that read its configuration ends as the configuration says, or because memory ran out
   pub over_config : (config : Config) → conf own told ≡ Reads config → of_config config ending ⊎ (ending ≡ no_memory) → EndsOverConfig meta of_config told before after ending
   over_config config reads (inl gives) =
       inl (subst (λ (m : List ℕ). OfReading m of_config (conf m told) ending) same

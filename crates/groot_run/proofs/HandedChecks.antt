@@ -10,14 +10,14 @@ use Rattle.run_endings.specs.declared.ending.Ending.{Ending}
 use Rattle.run_endings.specs.Endings.{no_memory}
 use Rattle.groot_run.specs.Outcome.{Outcome, WithinStates, TellsFindings, site_rewrites}
 
--- what is told of a configuration that is another is what is told of that one
+-- what is told of a configuration is told of each configuration that equals it
 pub of_the_config : (config other : Config) (sites : List Site) (ending : Ending) → config ≡ other
     → WithinStates config site_rewrites (TellsFindings config sites ending) ending ⊎ (ending ≡ no_memory)
     → WithinStates other site_rewrites (TellsFindings other sites ending) ending ⊎ (ending ≡ no_memory)
 of_the_config config other sites ending same =
     subst (λ (one : Config). WithinStates one site_rewrites (TellsFindings one sites ending) ending ⊎ (ending ≡ no_memory)) same
 
--- where none is handed in, the job gives what it gives without checks
+-- if no check is handed in, the job gives what it gives without checks
 pub without_checks : {B : Type 0} (means : B → Site) (all : List B) → all ≡ [] → (told : FilesTold) (job : Result Job LineFault) (ending : Ending)
     → Outcome told job (map means all) ending → Outcome told job [] ending
 without_checks {B} means all none told job ending = subst (λ (bs : List B). Outcome told job (map means bs) ending) none

@@ -38,7 +38,7 @@ TellsScope config name children_of = (limit : ℕ) → ReachesMore name children
 
 module _ (config : Config) (name : Labels) (rewrites states : ℕ) (children_of : Labels → List Labels) (rewrites_are : scope_rewrites ≡ rewrites)
     (states_are : most_states ≡ states) (tree : TellsScope config name children_of) where
-  -- a run of the pool that passes its limit
+  -- a run of the pool that passes its limit ends since the scope has too many names
   pub pool_passes : (ending : Ending) → ReachesMore name children_of scope_names → (ending ≡ too_many_names scope_names) ⊎ (ending ≡ no_memory)
       → IsScopeJudged config name (Err ending)
   pool_passes ending more (inl is) = inl (inl ((tree scope_names).0 more, is))
@@ -52,7 +52,7 @@ module _ (config : Config) (name : Labels) (rewrites states : ℕ) (children_of 
   of_scope : (P : ℕ → ℕ → Type 0) → P rewrites states → P scope_rewrites most_states
   of_scope P is = subst (λ (n : ℕ). P n most_states) (sym rewrites_are) (subst (λ (n : ℕ). P rewrites n) (sym states_are) is)
 
-  -- a judge whose report is refused
+  -- a judge of a scope that refuses its report names what reaches too many pairs
   pub states_pass : (ending : Ending) (query : Labels) → (ReachesMore name children_of scope_names → ⊥)
       → IsRefusedFor (scoped config rewrites name) states query → (ending ≡ too_many_states query) ⊎ (ending ≡ no_memory)
       → IsScopeJudged config name (Err ending)
@@ -60,7 +60,7 @@ module _ (config : Config) (name : Labels) (rewrites states : ℕ) (children_of 
       inl (inr (few_names few, inl (query, of_scope (λ (k n : ℕ). IsRefusedFor (scoped config k name) n query) is_refused, is)))
   states_pass ending query few is_refused (inr ran_out) = inr ran_out
 
-  -- one that gives it
+  -- a judge of a scope that gives its report gives the scope's
   pub is_told : (report : Report) → (ReachesMore name children_of scope_names → ⊥) → NonePasses (scoped config rewrites name) states
       → IsReport (scoped config rewrites name) report → IsScopeJudged config name (Ok report)
   is_told report few none is = (
@@ -79,7 +79,7 @@ list_is_short {W} {V} name children_of cmp verdict_of list whole few =
 
 -- ---- what checks tell
 
--- the report of the scope of a name, with what checks tell
+-- the ending with the report of the scope of a name, and what checks tell
 abbrev pub with_told : Report → Labels → List SiteFindings → Ending
 with_told report name told = with_output (status_of report.entries) (scope_text report name told)
 
@@ -99,7 +99,7 @@ module _ (config : Config) (name : Labels) where
   without_report P ending (inl (inr (few, inr (none, no_report)))) = absurd no_report
   without_report P ending (inr ran_out) = inr ran_out
 
-  -- with the report it is one too
+  -- an ending with the scope's report is one of the scope
   pub with_report : (sites : List Site) (report : Report) (ending : Ending) → IsScopeJudged config name (Ok report)
       → IsScoped config name sites ending ⊎ (ending ≡ no_memory) → Scopes name sites config ending ⊎ (ending ≡ no_memory)
   with_report sites report ending (few, none, is) (inl scoped_so) = inl (inr (few, inr (none, scoped_so)))

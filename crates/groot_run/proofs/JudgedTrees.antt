@@ -28,7 +28,7 @@ abbrev TellsTree : Config → (Labels → List Labels) → Type 0
 TellsTree config children_of = (limit : ℕ) → ReachesMore [] children_of limit ↔ HasMoreThan (IsInTree (ground_of config)) limit
 
 module _ (config : Config) (rewrites states limit : ℕ) (children_of : Labels → List Labels) (same : most_states ≡ states) (tree : TellsTree config children_of) where
-  -- a run of the pool that passes its limit
+  -- a run of the pool that passes its limit ends since the class tree has too many names
   pub pool_passes : (ending : Ending) → ReachesMore [] children_of limit → (ending ≡ too_many_names limit) ⊎ (ending ≡ no_memory)
       → IsJudged limit rewrites config (Err ending)
   pool_passes ending more (inl is) = inl (inl ((tree limit).0 more, is))
@@ -38,14 +38,14 @@ module _ (config : Config) (rewrites states limit : ℕ) (children_of : Labels �
   few_names : (ReachesMore [] children_of limit → ⊥) → HasMoreNames config limit → ⊥
   few_names few more = few ((tree limit).1 more)
 
-  -- a judge whose report is refused
+  -- a judge of a configuration that refuses its report names the representative that reaches too many pairs
   pub states_pass : (ending : Ending) (query : Labels) → (ReachesMore [] children_of limit → ⊥) → IsFirstPassed (whole_config config rewrites) states query
       → (ending ≡ too_many_states query) ⊎ (ending ≡ no_memory) → IsJudged limit rewrites config (Err ending)
   states_pass ending query few first (inl is) =
       inl (inr (few_names few, inl (query, subst (λ (n : ℕ). IsFirstPassed (whole_config config rewrites) n query) (sym same) first, is)))
   states_pass ending query few first (inr ran_out) = inr ran_out
 
-  -- one that gives it
+  -- a judge of a configuration that gives its report gives the configuration's
   pub is_told : (ReachesMore [] children_of limit → ⊥) → (SomeClassPasses (whole_config config rewrites) states → ⊥)
       → (report : Report) → IsReport (whole_config config rewrites) report → IsJudged limit rewrites config (Ok report)
   is_told few none report is = (few_names few, subst (λ (n : ℕ). SomeClassPasses (whole_config config rewrites) n → ⊥) (sym same) none, is)

@@ -21,12 +21,12 @@ module _ (config : Config) (rewrites most : ℕ) (begin : List Labels) where
         middle [] = has_first name is.first.later
         middle (other ∷ earlier) = has_later other (earlier ++ name ∷ is.first.later) name (middle earlier)
 
-  -- where none has too many in so many rounds, none is the first that has in fewer
+  -- if in so many rounds no server's name has too many walks, none is the first that has in one of them
   pub none_is_first : (rounds : ℕ) (name : Labels) (is : IsFirstWithTooMany config rewrites most begin name) → is.before < rounds
       → NoneInRounds config rewrites most begin rounds → ⊥
   none_is_first rounds name is below none = none is.before is.followed below is.after name (is_server name is) is.first.has
 
-  -- it is one
+  -- two first servers' names with too many walks, in the first round in which one has, are equal
   pub one_first : (a b : Labels) → IsFirstWithTooMany config rewrites most begin a → IsFirstWithTooMany config rewrites most begin b → a ≡ b
   one_first a b p q =
       elim (cases_lt p.before q.before) [

@@ -9,7 +9,7 @@ use Rattle.query_classes.specs.ClassList.{ListedClass, AreListed}
 use Rattle.net_model.proofs.FaultOrder.{classes_total}
 use Rattle.dns_data.proofs.OrderedLists.{same_rising}
 
--- two lists of these classes are one
+-- two lists of the classes of one part of a tree are equal
 pub one_class_list : (ground : Ground) (above : Labels) (a b : List ListedClass) → AreListed ground above a → AreListed ground above b → a ≡ b
 one_class_list ground above a b p q =
     same_rising (on (λ (listed : ListedClass). listed.class) class_cmp) (on_total (λ (listed : ListedClass). listed.class) classes_total)

@@ -103,7 +103,7 @@ module _ (subject : Subject) where
       let first = some_walk (with_sets (setting p.followed)) a.walks a.seen.fault p.walks_show.show in
       p.repeated first.0 first.1 ∙ sym (q.repeated first.0 (ap (λ (ws : List Walk). slice_get ws 0) (sym walks) ∙ first.1))
 
-  -- entries of one fault are one
+  -- entries of one subject with the same fault are equal
   pub one_entry : (a b : ReportEntry) → IsEntry subject a → IsEntry subject b → a.seen.fault ≡ b.seen.fault → a ≡ b
   one_entry a b p q same =
       let query = same_query a b p q same in

@@ -150,7 +150,7 @@ one_same : (told : FilesTold) (second : List ℕ) (config : Config) (a b : Endin
 one_same told second config a b =
     one_by_reading second (λ other. Compares (compared_of config other)) (λ other. one_comparison (compared_of config other)) (conf second told) a b
 
--- two outcomes of a job, by what is told of the files, are one
+-- two outcomes of a job, by the same that is told of the files, are equal
 pub one_outcome : (told : FilesTold) (job : Result Job LineFault) (sites : List Site) (a b : Ending) → Outcome told job sites a → Outcome told job sites b → a ≡ b
 one_outcome told (Ok (jobs.Check meta workers classes rewrites)) sites a b =
     one_by_reading meta (Checks classes rewrites) (one_check classes rewrites) (conf meta told) a b

@@ -46,7 +46,7 @@ same_fields a b classes names rewrites entries =
     ∙ ap (λ x. record b { rewrites = x; entries = a.entries }) rewrites
     ∙ ap (λ x. record b { entries = x }) entries
 
--- two reports of a subject are one
+-- two reports of a subject are equal
 pub one_report : (subject : Subject) (a b : Report) → IsReport subject a → IsReport subject b → a ≡ b
 one_report subject a b p q =
     let size = one_size subject.ground subject.below a.names a.classes b.names b.classes p.size q.size in

@@ -18,7 +18,7 @@ use Rattle.query_classes.proofs.TreeWalk.{AreWalked, one_more, walk_begins}
 abbrev pub IsLive : Ground → LiveName → Type 0
 IsLive ground found = IsLiveSet ground found.name found.live
 
--- so many names were passed, those of some rows, and the others wait, each with its live set
+-- so many names were passed, which are those of some rows, and the other names wait, each with its live set
 pub record ArePassed (ground : Ground) (count : ℕ) (waiting : List LiveName) : Type 0 where
   pub rows : List ClassRow
   pub so_many : length rows ≡ count
@@ -45,7 +45,7 @@ module _ (ground : Ground) (closed : IsClosed ground) where
     walked : AreWalked ground [] (tree_names passed.rows) (names_of left ++ next.name ∷ [])
     walked = last_waits ground [] (tree_names passed.rows) waiting left next is passed.walked
 
-    -- the one that comes next has its live set
+    -- the next name that waits has its live set
     pub next_is_live : IsLive ground next
     next_is_live = (All-pop (IsLive ground) waiting left (Some next) is passed.live).1
 
@@ -55,7 +55,7 @@ module _ (ground : Ground) (closed : IsClosed ground) where
         one_more ground closed [] (tree_names passed.rows) (names_of left) next.name walked most
         (length-map passed.rows (λ (row : ClassRow). row.name) ∙ passed.so_many ∙ full)
 
-    -- with the names below it in its place
+    -- one name more is passed, and the names one label below it wait in its place
     pub one_passed : (below after : List LiveName) → AreChildren ground next.name (names_of below) → All (IsLive ground) below → after ≡ left ++ reverse below
         → ArePassed ground (count + 1) after
     one_passed below after children live now =

@@ -35,7 +35,7 @@ over_file told before after name octets of_octets ending reads (inl ends) =
     inl (subst (λ (read : Reading (List ℕ)). OfReading name of_octets read ending) (sym reads) ends)
 over_file told before after name octets of_octets ending reads (inr ran_out) = inr (inr ran_out)
 
--- it isn't read
+-- if the file isn't read, the run ends by the fault
 pub over_no_file : (told : FilesTold) (before after : List ℕ → ℕ) (name : List ℕ) (of_octets : List ℕ → Ending → Type 0) (fault : LoadFault) (ending : Ending)
     → Gives {T = List ℕ} (file_octets name told) (Err fault) → FailedWhereItCame {T = List ℕ} (file_octets name) told (Err fault) → FailedAt {T = List ℕ} before after (Err fault)
     → IsNotLoaded name fault ending ⊎ (ending ≡ no_memory)

@@ -75,7 +75,7 @@ module _ (queries : LimitedQueries) where
 
   -- ---- where a run ends
 
-  -- among some classes, so among these and more
+  -- a run that ends among some classes ends among these and more
   pub ends_before : (classes more : List ListedClass) (ending : Ending) → EndsAmongClasses queries classes ending → EndsAmongClasses queries (classes ++ more) ending
   ends_before classes more ending (inl (query, first, is)) =
       inl (
@@ -93,7 +93,7 @@ module _ (queries : LimitedQueries) where
       )
   ends_before classes more ending (inr ran_out) = inr ran_out
 
-  -- behind classes of which none passes
+  -- a run that ends among classes ends among them behind classes of which none passes
   pub ends_behind : (classes more : List ListedClass) (ending : Ending) → NoListedPasses queries classes → EndsAmongClasses queries more ending
       → EndsAmongClasses queries (classes ++ more) ending
   ends_behind classes more ending none (inl (query, first, is)) =
@@ -112,7 +112,7 @@ module _ (queries : LimitedQueries) where
       )
   ends_behind classes more ending none (inr ran_out) = inr ran_out
 
-  -- at a class whose representative passes
+  -- a run ends at a class whose representative passes
   pub ends_there : (class : Class) (query : Labels) (ending : Ending) → Passes queries query → (ending ≡ too_many_states query) ⊎ (ending ≡ no_memory)
       → EndsAmongClasses queries (record { class = class; representative = query } ∷ []) ending
   ends_there class query ending passes (inl is) =
@@ -131,7 +131,7 @@ module _ (queries : LimitedQueries) where
       )
   ends_there class query ending passes (inr ran_out) = inr ran_out
 
-  -- among the classes of a row
+  -- a run that ends at the class of a row's name alone ends among the classes of the row
   pub ends_exact : (row : ClassRow) (ending : Ending) → EndsAmongClasses queries (exact_class row.name ∷ []) ending → EndsAmongClasses queries (classes_of_row row) ending
   ends_exact row ending ends = ends_before (exact_class row.name ∷ []) (class_below row.name row.below) ending ends
 
@@ -143,7 +143,7 @@ module _ (queries : LimitedQueries) where
       subst (λ (found : Option Labels). EndsAmongClasses queries (exact_class row.name ∷ class_below row.name found) ending) (sym below)
       (ends_behind (exact_class row.name ∷ []) (below_class row.name representative ∷ []) ending none ends)
 
-  -- among those of a row behind others
+  -- a run that ends among the classes of the next row ends among those of the rows up to it
   pub ends_at_row : (rows : List ClassRow) (i : ℕ) (row : ClassRow) (ending : Ending) → i < length rows → row ≡ get_or rows i row
       → NoListedPasses queries (classes_of_rows (take i rows)) → EndsAmongClasses queries (classes_of_row row) ending → EndsAmongClasses queries (classes_of_rows rows) ending
   ends_at_row rows i row ending there is none ends =
@@ -154,7 +154,7 @@ module _ (queries : LimitedQueries) where
   -- ---- what checks have seen
 
   module _ {B : Type 0} (name : B → List ℕ) (held : B → List (List ℕ)) (step : B → List (List ℕ) → View → List (List ℕ)) where
-    -- of no class
+    -- checks were shown the views of no class
     pub shown_none : (all : List B) → AreShown name held step queries [] all all
     shown_none all = record {
       none_passes = none_of_none;
@@ -165,7 +165,7 @@ module _ (queries : LimitedQueries) where
       };
     }
 
-    -- of some classes and then of some more
+    -- checks that were shown the views of some classes and then of some more were shown those of both
     pub shown_more : (classes more : List ListedClass) (a b c : List B) → AreShown name held step queries classes a b → AreShown name held step queries more b c
         → AreShown name held step queries (classes ++ more) a c
     shown_more classes more a b c first next = record {
@@ -180,7 +180,7 @@ module _ (queries : LimitedQueries) where
           };
     }
 
-    -- of one class, whose representative doesn't pass, by the graph of its walks
+    -- checks were shown the view of one class, whose representative doesn't pass, by the graph of its walks
     pub shown_one : (class : Class) (query : Labels) (graph : PlainGraph) (view : View) (a b : List B) → IsLeastGraph queries.config queries.rewrites query graph
         → (Passes queries query → ⊥) → view.class ≡ class → view.query ≡ query
         → ((setting : Setting) → IsGraphOf setting query graph → AreEnds setting query view.ends)
@@ -205,19 +205,19 @@ module _ (queries : LimitedQueries) where
         | inr none ↦ absurd (none_in_nil other none)
       ]
 
-    -- of one class, where the name of some server passes: there is nothing to be shown
+    -- if the name of some server passes, checks have nothing to be shown of a class
     pub shown_beside : (class : Class) (query : Labels) (all : List B) → ServerPasses queries → (Passes queries query → ⊥)
         → AreShown name held step queries (record { class = class; representative = query } ∷ []) all all
     shown_beside class query all passes few = record { none_passes = none_of_one class query few; shown = λ clear. absurd (clear passes) }
 
     -- ---- of the classes of a row
 
-    -- with its class of one name the whole row was shown, if nothing is below that name
+    -- checks that were shown the class of a row's name alone were shown the whole row, if nothing is below that name
     pub shown_alone : (row : ClassRow) (a b : List B) → row.below ≡ None → AreShown name held step queries (exact_class row.name ∷ []) a b
         → AreShown name held step queries (classes_of_row row) a b
     shown_alone row a b alone shown = subst (λ (below : Option Labels). AreShown name held step queries (exact_class row.name ∷ class_below row.name below) a b) (sym alone) shown
 
-    -- with its class of one name, and then the class below, the whole row was shown
+    -- checks that were shown the class of a row's name alone, and then the class below, were shown the whole row
     pub shown_both : (row : ClassRow) (representative : Labels) (a b c : List B) → row.below ≡ Some representative
         → AreShown name held step queries (exact_class row.name ∷ []) a b → AreShown name held step queries (below_class row.name representative ∷ []) b c
         → AreShown name held step queries (classes_of_row row) a c

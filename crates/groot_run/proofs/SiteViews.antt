@@ -71,6 +71,7 @@ module _ (subject : Subject) (states : ℕ) (classes : List ListedClass) (are : 
   is_listed : (class : Class) (query : Labels) → ClassPasses subject states class query → Contains classes (record { class = class; representative = query })
   is_listed class query it = (are.all (record { class = class; representative = query })).1 (it.is_class, it.represents)
 
+  -- if no listed class has a representative that reaches too many pairs, no class of the subject has one
   pub no_class_passes : NoListedPasses (queries_of subject states) classes → SomeClassPasses subject states → ⊥
   no_class_passes none (class, query, it) = none (record { class = class; representative = query }) (is_listed class query it) it.passes
 
@@ -120,14 +121,14 @@ module _ (queries : LimitedQueries) (same : queries ≡ limited_to queries.confi
   none : NoListedPasses queries classes → SomeClassPasses subject most_states → ⊥
   none few = no_class_passes subject most_states classes are (limited (λ q. NoListedPasses q classes) few)
 
-  -- where none of the representatives passes, no server's name does
+  -- if none of the listed representatives passes, no server's name does
   pub no_server : NoListedPasses queries classes → (name : Labels) → IsFirstServerPassed queries.config queries.rewrites queries.states name → ⊥
   no_server few name first =
       none few
       (class_passes queries.config site_rewrites most_states (ground_of queries.config) (own_covers queries.config)
       (some_name queries.config site_rewrites most_states name (limited (λ q. IsFirstServerPassed q.config q.rewrites q.states name) first)))
 
-  -- with what the checks tell that were shown all classes
+  -- a run that showed all classes to the checks ends with what they tell
   pub told : {B : Type 0} (name : B → List ℕ) (held : B → List (List ℕ)) (step : B → List (List ℕ) → View → List (List ℕ)) (olds news lent : List B)
       → AreShown name held step queries classes olds news → lent ≡ news → (ServerPasses queries → ⊥)
       → (ending : Ending) → ending ≡ with_output Clean (sites_text (map (λ b. record { title = name b; findings = held b }) lent))
@@ -144,7 +145,7 @@ module _ (queries : LimitedQueries) (same : queries ≡ limited_to queries.confi
         },
       )
 
-  -- at the first representative that passes, or because memory ran out
+  -- a run that ends among the classes ends at the first representative that passes, or because memory ran out
   pub ended : (P : Type 0) (ending : Ending) → EndsAmongClasses queries classes ending → WithinStates queries.config site_rewrites P ending ⊎ (ending ≡ no_memory)
   ended P ending (inl (query, first, is)) =
       inl (inl (query, is_first_passed subject most_states classes are query (limited (λ q. IsFirstOf q classes query) first), is))

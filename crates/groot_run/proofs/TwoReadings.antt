@@ -14,7 +14,7 @@ use Rattle.run_endings.specs.Endings.{OfReading}
 use Rattle.run_endings.specs.declared.ending.Ending.{Ending}
 
 module _ {T : Type 0} (meta : List ℕ) (second : FilesTold → Reading T) (of_config : Config → Ending → Type 0) (ending : Ending) where
-  -- the second reading comes behind the configuration
+  -- a run that read its configuration ends by the configuration, or as the second reading says
   pub over_both : (between told : FilesTold) (before middle after : List ℕ → ℕ) (config : Config) → conf meta between ≡ Reads config → StaysTold between told → NoneFell before middle
       → EndsOrFails (of_config config ending) (ComesToFile second told) middle after ending
       → EndsOrFails (OfReading meta of_config (conf meta told) ending) (ComesToFile (both (conf meta) second) told) before after ending
@@ -29,7 +29,7 @@ module _ {T : Type 0} (meta : List ℕ) (second : FilesTold → Reading T) (of_c
         inr (inl (file, is, comes_second (conf meta) second (conf_is_steady meta) told config file later comes, rose_then (before file) (middle file) (after file) (none file) rose))
     by (inr (inr ran_out)) = inr (inr ran_out)
 
-  -- there is no configuration, so it doesn't come
+  -- a run without a configuration ends so, and doesn't come to the second reading
   pub over_neither : (told : FilesTold) (before after : List ℕ → ℕ) → EndsWithoutConfig meta told before after ending
       → EndsOrFails (OfReading meta of_config (conf meta told) ending) (ComesToFile (both (conf meta) second) told) before after ending
   over_neither told before after (inl (fault, refuses, is)) = inl (subst (λ (read : Reading Config). OfReading meta of_config read ending) (sym refuses) is)

@@ -26,14 +26,14 @@ data_redirect rdata = false
 abbrev pub is_redirect : Rr → Bool
 is_redirect rr = data_redirect rr.rdata
 
--- the zone has one
+-- the zone has a DNAME record
 abbrev pub zone_redirects : Zone → Bool
 zone_redirects zone = list_any is_redirect zone.rrs
 
--- a zone of the server has
+-- a zone of the server has a DNAME record
 abbrev pub server_redirects : Server → Bool
 server_redirects server = list_any zone_redirects server.zones
 
--- a server of the configuration has
+-- a zone of a server of the configuration has a DNAME record
 abbrev pub config_redirects : Config → Bool
 config_redirects config = list_any server_redirects config.servers

@@ -38,7 +38,7 @@ advances_not growing =
       paid = omega arith;
     }
 
--- two advances, one after the other, are one
+-- a graph that advanced, and then advanced again, advanced from the first to the last
 pub advances_twice : (before between after : GrowingGraph) → Advances before between → Advances between after → Advances before after
 advances_twice before between after one other =
     record {

@@ -28,7 +28,7 @@ module _ (config : Config) (rewrites : ℕ) (query : Labels) where
   reached : (pair : State × RrType) → StandsOn (following config rewrites (server_names config)) query pair → IsReached config rewrites query pair
   reached pair stands = record { walk = stands.walk; is_walk = stands.is_walk; stands = stands.stands }
 
-  -- each of its pairs is reached
+  -- each pair of a graph built from drafts is reached by the query
   pub built_exact : (drafts : List Draft) (starts : List ℕ) → AreDrafts (following config rewrites (server_names config)) (start config query) drafts
       → AllPairs (λ a b. a ≢ b) (states_of drafts) → IsExact config rewrites query (record { nodes = map node_of drafts; starts = starts })
   built_exact drafts starts are once =
@@ -38,7 +38,7 @@ module _ (config : Config) (rewrites : ℕ) (query : Labels) where
             (reached_by (following config rewrites (server_names config)) (start config query) drafts are starts pair has));
       }
 
-  -- and there are no others
+  -- if the graph has at most so many pairs, the query reaches no more
   pub built_few : (graph : PlainGraph) (limit : ℕ) → IsGraphOf (following config rewrites (server_names config)) query graph
       → IsExact config rewrites query graph → length (pairs_of graph) ≤ limit → HasMoreThan (IsReached config rewrites query) limit → ⊥
   built_few graph limit is exact few more =
@@ -59,7 +59,7 @@ module _ (config : Config) (rewrites : ℕ) (query : Labels) where
 
 -- ---- the name that is asked for
 
--- it is short enough where it has a tail
+-- a name with a tail for which a graph may be asked has at most 255 octets with it
 pub asked_short : (config : Config) (name : SymName) → IsAsked config name → IfSome name.tail (λ label. wire_octets (name.known ++ label ∷ []) ≤ 255)
 asked_short config name asked = by name.tail refl asked where
   by : (tail : Option (List ℕ)) → name.tail ≡ tail → AskedWith config name tail → IfSome tail (λ label. wire_octets (name.known ++ label ∷ []) ≤ 255)
@@ -79,7 +79,7 @@ no_drafts setting begin drafts none =
       comes = λ at draft rtype is wanted. cc;
     })
 
--- and none at which a type waits
+-- at first there is no draft at which a type waits
 pub none_at_first : (drafts : List Draft) (at : ℕ) (rtype : RrType) → drafts ≡ [] → Waits drafts at rtype → ⊥
 none_at_first drafts at rtype none waits =
     by waits.draft (sym (ap (λ (ds : List Draft). slice_get ds at) none) ∙ waits.is_draft)
@@ -87,7 +87,7 @@ none_at_first drafts at rtype none waits =
     by : (draft : Draft) → None ≡ Some draft → ⊥
     by draft e = cc
 
--- all types still come to the starts
+-- the drafts of the start states still await all types when the drafts have grown
 pub still_await : (before after : List Draft) (starts : List ℕ) (states : List State) → Grows before after → AwaitAll before starts states → AwaitAll after starts states
 still_await before after starts states grows await =
     record {

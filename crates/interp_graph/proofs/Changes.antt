@@ -19,7 +19,7 @@ use Rattle.interp_graph.proofs.Counts.{more_types, more_reached}
 use Rattle.interp_graph.proofs.Drafts.{grows_not, grows_behind, drafts_with_new, grows_in_place, takes_later, drafts_with_types}
 use Rattle.interp_graph.proofs.ItemsByNumber.{from_pushed, in_front, pushed_there, from_set, set_there, set_elsewhere, pairs_from_images}
 
--- what stands with one number is one
+-- items of a list with the same number are equal
 pub one_there : {A : Type 0} (xs : List A) (k : ℕ) (x y : A) → slice_get xs k ≡ Some x → slice_get xs k ≡ Some y → x ≡ y
 one_there xs k x y one other = by (sym one ∙ other) where
   by : Some x ≡ Some y → x ≡ y

@@ -44,11 +44,11 @@ more_types before after newly takes =
 
 -- ---- the pairs
 
--- those of a draft
+-- the pairs of a draft: its state with each type that comes to it
 abbrev pub draft_pairs : Draft → List (State × RrType)
 draft_pairs draft = map (λ rtype. (draft.state, rtype)) (filter (has_bit draft.wanted) types)
 
--- those of all drafts
+-- the pairs of all drafts: each state with each type that comes to it
 abbrev pub wanted_pairs : List Draft → List (State × RrType)
 wanted_pairs drafts = flat_map draft_pairs drafts
 
@@ -60,7 +60,7 @@ in_a_row f many each (x ∷ xs) =
     length-append (f x) (flat_map f xs)
     ∙ (ap (λ n. n + length (flat_map f xs)) (each x) ∙ (ap (λ n. many x + n) (in_a_row f many each xs) ∙ sym (sum_by-cons many x xs)))
 
--- so the pairs are as many as are counted
+-- the drafts have as many pairs as are counted
 pub many_pairs : (drafts : List Draft) → length (wanted_pairs drafts) ≡ pair_count drafts
 many_pairs drafts =
     in_a_row draft_pairs (λ draft. size_of draft.wanted)
@@ -72,7 +72,7 @@ state_told draft pair has =
     let from = from_map make (filter (has_bit draft.wanted) types) pair has in
     ap (λ (p : State × RrType). p.0) from.2
 
--- no pair stands twice, where no two drafts have equal states
+-- the drafts have no pair twice, if no two have equal states
 pub pairs_differ : (drafts : List Draft) → AllPairs (λ (a b : Draft). a.state ≢ b.state) drafts → AllPairs Differ (wanted_pairs drafts)
 pairs_differ drafts once =
     pairs_in_row Differ draft_pairs drafts
@@ -82,7 +82,7 @@ pairs_differ drafts once =
     (state_told (get_or drafts i d) y here
     ∙ (ap (λ (p : State × RrType). p.0) same ∙ sym (state_told (get_or drafts j d) z there))))
 
--- each pair comes from where the query begins
+-- each pair of the drafts comes from where the query begins
 pub each_comes : (setting : Setting) (begin : List State) (drafts : List Draft) → AreDrafts setting begin drafts
     → (pair : State × RrType) → Contains (wanted_pairs drafts) pair → Comes setting begin pair.1 pair.0
 each_comes setting begin drafts are pair has =
@@ -93,7 +93,7 @@ each_comes setting begin drafts are pair has =
     let wanted = (from_filter (has_bit of.0.wanted) types typed.0 typed.1).1 in
     subst (λ (p : State × RrType). Comes setting begin p.1 p.0) typed.2 (are.comes at.0 of.0 typed.0 at.1 wanted)
 
--- so where more are counted than are allowed, more are reached
+-- if the drafts have more pairs than the limit, more than so many are reached
 pub more_reached : (setting : Setting) (begin : List State) (drafts : List Draft) (limit : ℕ) → AreDrafts setting begin drafts
     → AllPairs (λ (a b : Draft). a.state ≢ b.state) drafts → limit < pair_count drafts
     → (P : State × RrType → Type 0) → ((pair : State × RrType) → Comes setting begin pair.1 pair.0 → P pair) → HasMoreThan P limit

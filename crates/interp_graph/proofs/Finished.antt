@@ -112,7 +112,7 @@ module _ (setting : Setting) (begin : List State) (drafts : List Draft) (are : A
               from.2 (are.each at from.0 from.1).apart;
         }
 
--- no two nodes have equal states, where no two drafts do
+-- no two nodes made of drafts have equal states, if no two drafts have
 pub one_node : (drafts : List Draft) → AllPairs (λ a b. a ≢ b) (states_of drafts) → AllPairs (λ (a b : Node). a.state ≢ b.state) (map node_of drafts)
 one_node drafts once =
     pairs_of_images node_of (λ (a b : Node). a.state ≢ b.state) drafts

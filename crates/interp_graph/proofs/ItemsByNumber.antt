@@ -6,7 +6,7 @@ use Rattle.std.proofs.lemmas.List.{length-map, get_or-map}
 use Rattle.dns_data.proofs.Membership.{none_in_nil, has_first, has_later, first_or_later}
 
 module _ {A : Type 0} where
-  -- an item of a list with one more is one of the list, or the one behind it
+  -- an item of a list with one more is an item of the list, or the one put behind it
   pub from_pushed : (xs : List A) (x y : A) (k : ℕ) → slice_get (xs ++ x ∷ []) k ≡ Some y
       → (slice_get xs k ≡ Some y) ⊎ ((k ≡ length xs) × (x ≡ y))
   from_pushed [] x y zero e = let same : x ≡ y = cc in inr (refl, same)
@@ -18,13 +18,13 @@ module _ {A : Type 0} where
         | inr new ↦ inr (ap suc new.0, new.1)
       ]
 
-  -- the items in front keep their numbers
+  -- the items of a list keep their numbers if others are put behind it
   pub in_front : (xs ys : List A) (k : ℕ) (x : A) → slice_get xs k ≡ Some x → slice_get (xs ++ ys) k ≡ Some x
   in_front [] ys k x e = cc
   in_front (z ∷ xs) ys zero x e = e
   in_front (z ∷ xs) ys (suc k) x e = in_front xs ys k x e
 
-  -- and the one behind them has the next number
+  -- an item that is put behind a list has the list's length as its number
   pub pushed_there : (xs : List A) (x : A) → slice_get (xs ++ x ∷ []) (length xs) ≡ Some x
   pushed_there [] x = refl
   pushed_there (z ∷ xs) x = pushed_there xs x
@@ -42,13 +42,13 @@ module _ {A : Type 0} where
         | inr other ↦ inr ((λ h. other.0 (let g : k ≡ i = omega (arith, h) in g)), other.1)
       ]
 
-  -- the changed item has its number
+  -- an item that is put over another has the other's number
   pub set_there : (xs : List A) (i : ℕ) (x y : A) → slice_get xs i ≡ Some y → slice_get (set xs i x) i ≡ Some x
   set_there [] i x y e = cc
   set_there (z ∷ xs) zero x y e = refl
   set_there (z ∷ xs) (suc i) x y e = set_there xs i x y e
 
-  -- and the others theirs
+  -- if an item is put over another, items with other numbers stay
   pub set_elsewhere : (xs : List A) (i k : ℕ) (x y : A) → k ≢ i → slice_get xs k ≡ Some y → slice_get (set xs i x) k ≡ Some y
   set_elsewhere [] i k x y other e = cc
   set_elsewhere (z ∷ xs) zero zero x y other e = absurd (other refl)
@@ -70,7 +70,7 @@ module _ {A B : Type 0} where
   from_mapped f (x ∷ xs) zero y e = let same : f x ≡ y = cc in (x, refl, same)
   from_mapped f (x ∷ xs) (suc k) y e = from_mapped f xs k y e
 
-  -- and the other way round
+  -- the image of an item stands in the mapped list with the item's number
   pub mapped_there : (f : A → B) (xs : List A) (k : ℕ) (x : A) → slice_get xs k ≡ Some x → slice_get (map f xs) k ≡ Some (f x)
   mapped_there f [] k x e = cc
   mapped_there f (y ∷ xs) zero x e = let same : y ≡ x = cc in ap (λ z. Some (f z)) same
@@ -83,7 +83,7 @@ module _ {A B : Type 0} where
   side_by_side R S (x ∷ xs) [] less all = absurd all
   side_by_side R S (x ∷ xs) (y ∷ ys) less all = (less x y all.0, side_by_side R S xs ys less all.1)
 
-  -- an item of the first list has one beside it
+  -- of two lists side by side, each item of the first has an item of the second beside it
   pub beside : (R : A → B → Type 0) (xs : List A) (ys : List B) (x : A) → AllZip R xs ys → Contains xs x
       → (y : B) × Contains ys y × R x y
   beside R [] ys x all has = absurd (none_in_nil x has)
@@ -94,7 +94,7 @@ module _ {A B : Type 0} where
         | inr later ↦ (let there = beside R xs ys x all.1 later in (there.0, has_later y ys there.0 there.1, there.2))
       ]
 
-  -- and one of the second list
+  -- of two lists side by side, each item of the second has an item of the first beside it
   pub beside_other : (R : A → B → Type 0) (xs : List A) (ys : List B) (y : B) → AllZip R xs ys → Contains ys y
       → (x : A) × Contains xs x × R x y
   beside_other R xs [] y all has = absurd (none_in_nil y has)
@@ -105,7 +105,7 @@ module _ {A B : Type 0} where
         | inr later ↦ (let there = beside_other R xs ys y all.1 later in (there.0, has_later x xs there.0 there.1, there.2))
       ]
 
-  -- two lists side by side get an item more
+  -- two lists side by side stay so with a related pair put at their ends
   pub beside_pushed : (R : A → B → Type 0) (xs : List A) (ys : List B) (x : A) (y : B) → AllZip R xs ys → R x y
       → AllZip R (xs ++ x ∷ []) (ys ++ y ∷ [])
   beside_pushed R [] [] x y all one = (one, tt)

@@ -35,7 +35,7 @@ distinct_states (key ∷ keys) distinct =
 pub key_found : (keys : List State) (key : State) (number : ℕ) → slice_get keys number ≡ Some key → list_any (state_eq key) keys ≡ true
 key_found keys key number is = any_has (state_eq key) keys key (item_there keys number key is) ((state_decides key key).1 refl)
 
--- a key isn't among those before it
+-- of distinct keys none is among those before it
 pub none_before : (front : List State) (key : State) (back : List State) → IsDistinct state_eq (front ++ key ∷ back) → list_any (state_eq key) front ≡ false
 none_before [] key back distinct = refl
 none_before (first ∷ front) key back distinct =
@@ -52,7 +52,7 @@ none_before (first ∷ front) key back distinct =
     other false is = is
     other true is = absurd (true≢false (sym ((state_decides first key).1 (sym ((state_decides key first).0 is))) ∙ apart))
 
--- so distinct keys that are put into a table one after another stand there in their order
+-- distinct keys that are put into a table one after another stand there in their order
 pub key_put : (front : List State) (key : State) (back all after : List State) → front ++ key ∷ back ≡ all → IsDistinct state_eq all
     → after ≡ insert_key state_eq front key → after ++ back ≡ all
 key_put front key back all after so distinct made =
@@ -85,6 +85,6 @@ module _ (before after : List State) (key : State) (number : ℕ) (is_new : Bool
   pub new_key : is_new ≡ true → (after ≡ before ++ key ∷ []) × (number ≡ length before)
   new_key new = subst (TakesKey before after key number) new taken
 
-  -- and where the key isn't new, it stands there
+  -- a key that isn't new stands with its number in the table, which stays as it was
   pub old_key : is_new ≡ false → (after ≡ before) × (slice_get before number ≡ Some key)
   old_key old = subst (TakesKey before after key number) old taken

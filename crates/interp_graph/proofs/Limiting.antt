@@ -23,14 +23,14 @@ use Rattle.interp_graph.proofs.ItemsByNumber.{beside, beside_pushed, from_mapped
 use Rattle.interp_graph.proofs.Changes.{one_there}
 
 module _ {A B : Type 0} (R : A → B → Type 0) where
-  -- one more item beside the next one of a list
+  -- a list beside the first items of a second stays so with one more item, which is related to the second's next one
   pub zip_more : (xs : List A) (ys : List B) (i : ℕ) (x : A) (y : B) → i < length ys → y ≡ get_or ys i y → AllZip R xs (take i ys) → R x y
       → AllZip R (xs ++ x ∷ []) (take (i + 1) ys)
   zip_more xs ys i x y below is all one =
       subst (AllZip R (xs ++ x ∷ [])) (sym (take_more ys i y below ∙ ap (λ (z : B). take i ys ++ z ∷ []) (sym is)))
       (beside_pushed R xs (take i ys) x y all one)
 
-  -- and the other way round
+  -- the first items of a list stay beside a second with one more item, to which the first's next one is related
   pub zip_more_left : (xs : List A) (ys : List B) (i : ℕ) (x : A) (y : B) → i < length xs → x ≡ get_or xs i x → AllZip R (take i xs) ys → R x y
       → AllZip R (take (i + 1) xs) (ys ++ y ∷ [])
   zip_more_left xs ys i x y below is all one =
@@ -44,7 +44,7 @@ number_is keys state i is =
     slice_get-get_or keys i state found.0 ∙ ap Some (sym ((state_decides state (get_or keys i state)).0 found.1))
 
 module _ (graph : PlainGraph) (keys : List State) (numbered : IsNumbered keys graph) where
-  -- its node has the state
+  -- the node with the number that is found for a state has that state
   pub node_is : (state : State) (i : ℕ) (node : Node) → position (state_eq state) keys ≡ Some i → slice_get graph.nodes i ≡ Some node → node.state ≡ state
   node_is state i node is there =
       let from = from_mapped (λ (n : Node). n.state) graph.nodes i state
@@ -69,7 +69,7 @@ module _ (graph : PlainGraph) (keys : List State) (numbered : IsNumbered keys gr
       ∙ (mapped_there (λ (n : Node). n.state) graph.nodes there.0 there.1 there.2 ∙ ap Some there.3)))
       ((state_decides state state).1 refl)
 
-  -- where it isn't, no type is asked for
+  -- if a state isn't among the keys, no type is asked for at it, so no fork is needed
   pub none_split : (types : List Bool) (state : State) → HasTypes graph types state → list_any (state_eq state) keys ≡ false → AreSplit types []
   none_split types state has none =
       record {
@@ -80,7 +80,7 @@ module _ (graph : PlainGraph) (keys : List State) (numbered : IsNumbered keys gr
 
   -- no two nodes have equal states
   module _ (once : AllPairs (λ a b. a.state ≢ b.state) graph.nodes) where
-    -- so a node with the state is its node
+    -- nodes of the graph with equal states are one node
     pub one_number : (i j : ℕ) (a b : Node) → slice_get graph.nodes i ≡ Some a → slice_get graph.nodes j ≡ Some b → a.state ≡ b.state → a ≡ b
     one_number i j a b one other same = by (order i j) where
       order : (i j : ℕ) → (i < j) ⊎ ((i ≡ j) ⊎ (j < i))
@@ -110,7 +110,7 @@ module _ (graph : PlainGraph) (keys : List State) (numbered : IsNumbered keys gr
           absurd (once j i a more (slice_get_within graph.nodes i a one)
           (ap (λ (n : Node). n.state) at_other ∙ (sym same ∙ ap (λ (n : Node). n.state) (sym at_one))))
 
-    -- and has an arm for each type that is asked for
+    -- the node of a state has an arm for each type that is asked for at the state
     pub arms_there : (types : List Bool) (state : State) (i : ℕ) (node : Node) → HasTypes graph types state → slice_get graph.nodes i ≡ Some node
         → node.state ≡ state → (rtype : RrType) → has_bit types rtype ≡ true → (arm : Arm) × Contains node.arms arm × (has_bit arm.types rtype ≡ true)
     arms_there types state i node has here is rtype typed =

@@ -19,7 +19,7 @@ use Rattle.interp_graph.specs.declared.growing.GrowingGraph.{GrowingGraph}
 pub item_is : {A : Type 0} (xs : List A) (i : ℕ) (x : A) → i < length xs → x ≡ get_or xs i x → slice_get xs i ≡ Some x
 item_is xs i x below is = slice_get-get_or xs i x below ∙ ap Some (sym is)
 
--- what is taken from a list was in it
+-- a number that is taken off a list is below the bound of the list's numbers
 pub taken_below : (result : Option ℕ) (old new : List ℕ) (many : ℕ) → old ≡ new ++ option_to_list result
     → ((k : ℕ) → Contains old k → k < many) → IfSome result (λ at. at < many)
 taken_below None old new many parts among = tt
@@ -39,7 +39,7 @@ module _ (growing : GrowingGraph) (at : ℕ) (set_of newly : List Bool) (old : D
   not_wanted rtype new =
       not-true (has_bit old.wanted rtype) (and_parts (has_bit set_of rtype) (not (has_bit old.wanted rtype)) (sym (minus rtype) ∙ new)).1
 
-  -- where none is new, all came before
+  -- if none of the types is new to a draft, all of them came to it before
   pub none_new : size_of newly ≡ 0 → TookTypes growing growing at set_of
   none_new none =
       record {
@@ -75,7 +75,7 @@ module _ (growing : GrowingGraph) (at : ℕ) (set_of newly : List Bool) (old : D
           or_right (has_bit old.wanted rtype) (has_bit newly rtype)
           (minus rtype ∙ and_from (has_bit set_of rtype) (not (has_bit old.wanted rtype)) typed (ap not had))
 
-  -- with them there would be too many pairs
+  -- if the types that are new to a draft make more pairs than the limit, there would be too many
   pub too_many : growing.limit < growing.pairs + size_of newly → TooMany growing at set_of
   too_many more =
       record {

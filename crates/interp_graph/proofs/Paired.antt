@@ -5,7 +5,7 @@ use Rattle.net_model.specs.declared.walk.State.{State}
 use Rattle.interp_graph.specs.Drafts.{Draft, draft_of, drafts_of, states_of}
 use Rattle.interp_graph.specs.declared.node_types.NodeTypes.{NodeTypes}
 
--- a draft has the state and the types with its number
+-- a draft made of states and types by number has the state and the types with its number
 pub parts_there : (states : List State) (all : List NodeTypes) (k : ℕ) (draft : Draft) → slice_get (drafts_of states all) k ≡ Some draft
     → (its : NodeTypes) × (slice_get states k ≡ Some draft.state) × (slice_get all k ≡ Some its) × (draft ≡ draft_of draft.state its)
 parts_there [] all k draft is = cc
@@ -15,7 +15,7 @@ parts_there (s ∷ states) (its ∷ all) zero draft is =
     (its, ap (λ (d : Draft). Some d.state) same, refl, subst (λ (d : Draft). d ≡ draft_of d.state its) same refl)
 parts_there (s ∷ states) (t ∷ all) (suc k) draft is = parts_there states all k draft is
 
--- and the other way round
+-- a state and the types with the same number make the draft with this number
 pub draft_at : (states : List State) (all : List NodeTypes) (k : ℕ) (state : State) (its : NodeTypes) → slice_get states k ≡ Some state
     → slice_get all k ≡ Some its → slice_get (drafts_of states all) k ≡ Some (draft_of state its)
 draft_at [] all k state its one other = cc
@@ -32,7 +32,7 @@ both_below (s ∷ states) (t ∷ all) zero below = (omega arith, omega arith)
 both_below (s ∷ states) (t ∷ all) (suc k) below =
     let rest = both_below states all k (omega (arith, below)) in (omega (arith, rest.0), omega (arith, rest.1))
 
--- the types of a draft change
+-- changing the types with a number changes the draft with this number
 pub draft_changed : (states : List State) (all : List NodeTypes) (k : ℕ) (state : State) (its : NodeTypes) → slice_get states k ≡ Some state
     → drafts_of states (set all k its) ≡ set (drafts_of states all) k (draft_of state its)
 draft_changed [] all k state its is = cc

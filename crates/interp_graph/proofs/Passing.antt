@@ -11,7 +11,7 @@ passed_on {E = E} (Err y) fault free and is answered was =
     let same : y ≡ free = cc in
     was ∙ ap (λ (e : E). Err e) (sym and ∙ same)
 
--- what an answer of nothing says
+-- what holds if an option is empty holds of an empty one
 pub where_none : {A : Type 0} (answer : Option A) (P : Type 0) → IfNone answer P → answer ≡ None → P
 where_none None P says is = says
 where_none (Some x) P says is = cc

@@ -47,13 +47,14 @@ restriction config given rewrites query graph followed states same built begins 
       begins = same_states graph graph.starts states (start config query) begins built.is_graph.starts ∙ ap (λ (c : Config). start c query) (sym same);
     }
 
--- and those are the states in which its query begins
+-- the states at which the starts of a built graph stand are those in which its query begins
 pub restriction_begins : (config : Config) (rewrites : ℕ) (query : Labels) (graph : PlainGraph) (states : List State)
     → IsBuilt config rewrites query graph → AllZip (HasState graph) graph.starts states → states ≡ start config query
 restriction_begins config rewrites query graph states built begins =
     same_states graph graph.starts states (start config query) begins built.is_graph.starts
 
--- what is made of its drafts is the graph
+-- drafts at which nothing waits, whose first ones await all types, make the graph of the walks of the restriction's
+-- query
 pub restricted_graph : (setting : Setting) (query : Labels) (states : List State) (drafts : List Draft) (starts : List ℕ) → states ≡ start setting.config query
     → AreDrafts setting states drafts → ((at : ℕ) (rtype : RrType) → Waits drafts at rtype → ⊥) → AwaitAll drafts starts states
     → IsGraphOf setting query (record { nodes = map node_of drafts; starts = starts })
@@ -64,7 +65,7 @@ restricted_graph setting query states drafts starts begins are none await =
     by at draft rtype is true waits = absurd (none at rtype (record { draft = draft; is_draft = is; waits = waits }))
     by at draft rtype is false waits = waits
 
--- and has what its walks reach alone
+-- the graph made of the drafts has no pair but those that the query's walks reach
 pub restricted_exact : (setting : Setting) (query : Labels) (states : List State) (drafts : List Draft) (starts : List ℕ) → states ≡ start setting.config query
     → AreDrafts setting states drafts → AllPairs (λ a b. a ≢ b) (states_of drafts)
     → IsExactIn setting query (record { nodes = map node_of drafts; starts = starts })
@@ -75,7 +76,7 @@ restricted_exact setting query states drafts starts begins are once =
           (subst (λ (begin : List State). Comes setting begin pair.1 pair.0) begins (reached_by setting states drafts are starts pair has));
     }
 
--- no more pairs come than the graph has
+-- in a restriction no more pairs come from where the query begins than the whole graph has
 pub no_more_come : (config : Config) (graph : PlainGraph) (followed : List Labels) (setting : Setting) (begin : List State) → IsRestriction config graph followed setting begin
     → (limit : ℕ) → limit ≡ length (pairs_of graph) → HasMoreComing setting begin limit → ⊥
 no_more_come config graph followed setting begin is limit many more =

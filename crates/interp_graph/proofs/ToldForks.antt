@@ -33,7 +33,7 @@ pub record AreTold (setting : Setting) (state : State) (types : List Bool) (told
 abbrev ToldFork : Type 0
 ToldFork = List Bool × List step.Branch
 
--- forks that say so are the state's
+-- forks that are what is told of a state's types are the forks of the state
 pub told_forks : (setting : Setting) (state : State) (types : List Bool) (forks : List Fork) (told : List (List Bool × List step.Branch))
     → map fork_of forks ≡ told → AreTold setting state types told → AreForks setting state types forks
 told_forks setting state types forks told same are =
@@ -56,7 +56,7 @@ told_forks setting state types forks told same are =
     sets : map (λ (fork : Fork). fork.types) forks ≡ map (λ (one : ToldFork). one.0) told
     sets = sym (map-map (λ (one : ToldFork). one.0) fork_of forks) ∙ ap (map (λ (one : ToldFork). one.0)) same
 
--- a state whose server holds no zone for the name
+-- a state whose server has no zone for the name leads, with all types, to the end outside
 pub outside_told : (setting : Setting) (state : State) (types : List Bool) → None ≡ nearest_of setting.config state.server state.name
     → AreTold setting state types ((types, step.End None Outside ∷ []) ∷ [])
 outside_told setting state types none =
@@ -80,7 +80,7 @@ outside_told setting state types none =
 abbrev pub told_of : Setting → State → Labels → TypedFound → List Bool × List step.Branch
 told_of setting state origin answer = (answer.types, after_lookup setting state origin answer.found)
 
--- the answers of its server's zone
+-- the answers of the zone of a state's server tell what the state leads to with each type
 pub answers_told : (setting : Setting) (state : State) (types : List Bool) (zone : Zone) (name : Labels) (answers : List TypedFound)
     → Some zone ≡ nearest_of setting.config state.server state.name → name ≡ state.name → AreApart answers
     → ((rtype : RrType) → answers_type answers rtype ≡ has_bit types rtype) → AllByRecursion (IsFoundFor zone name) answers

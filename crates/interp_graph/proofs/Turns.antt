@@ -11,7 +11,8 @@ use Rattle.interp_graph.specs.Growing.{IsSoundSoFar, AreToFollow, IsRid, Waits, 
 use Rattle.interp_graph.specs.declared.growing.GrowingGraph.{GrowingGraph}
 use Rattle.interp_graph.proofs.Drafts.{grows_not, grows_twice}
 
--- so far, in walks that are read so
+-- what holds before each turn in which a node is taken: drafts grew, each at which a type waits is to be followed, and
+-- in walks of the kind they stay right
 pub record TurnsSoFar (IsSo : Setting → List State → Type 0) (before now : GrowingGraph) : Type 0 where
   pub sound : IsSoundSoFar now
   pub limit : now.limit ≡ before.limit
@@ -60,7 +61,7 @@ module _ (IsSo : Setting → List State → Type 0) where
             | inr none ↦ absurd (none_in_nil k none)
           ]
 
-      -- then less is left to do
+      -- each turn leaves less to do: room for pairs and nodes to be followed
       pub less_left : after.limit + length after.stack.items - after.pairs < now.limit + length now.stack.items - now.pairs
       less_left =
           of after.limit now.limit after.pairs now.pairs taken.pairs (length after.stack.items) (length taken.stack.items) (length now.stack.items)
@@ -70,7 +71,7 @@ module _ (IsSo : Setting → List State → Type 0) where
           of : (a b p q r s t u : ℕ) → a ≡ b → r ≡ q → s + r ≤ t + p → u ≡ t + 1 → p ≤ a → q ≤ b → a + s - p < b + u - q
           of a b p q r s t u limits pairs paid one few was = omega (arith, limits, pairs, paid, one, few, was)
 
-  -- at the end nothing waits
+  -- if no draft is left to be followed, no type waits at any
   pub none_wait : (before now : GrowingGraph) → TurnsSoFar IsSo before now → now.stack.items ≡ [] → (at : ℕ) (rtype : RrType) → Waits (drafts_in now) at rtype → ⊥
   none_wait before now so none at rtype waits =
       none_in_nil at (subst (λ (ks : List ℕ). Contains ks at) none (so.listed at rtype waits))

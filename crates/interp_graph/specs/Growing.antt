@@ -69,7 +69,7 @@ pub record Waits (drafts : List Draft) (at : ℕ) (rtype : RrType) : Type 0 wher
 abbrev pub AreToFollow : GrowingGraph → Type 0
 AreToFollow growing = (at : ℕ) (rtype : RrType) → Waits (drafts_in growing) at rtype → Contains growing.stack.items at
 
--- what waits still does
+-- each type that waited at a draft before still waits there
 abbrev pub StillWaits : GrowingGraph → GrowingGraph → Type 0
 StillWaits before after = (at : ℕ) (rtype : RrType) → Waits (drafts_in before) at rtype → Waits (drafts_in after) at rtype
 

@@ -52,7 +52,7 @@ IsNumbered keys graph = keys ≡ map (λ node. node.state) graph.nodes
 abbrev pub LeadsWithin : PlainGraph → PlainBranch → Type 0
 LeadsWithin graph branch = (hop : Hop) (to : ℕ) → branch ≡ on.Go hop to → to < length graph.nodes
 
--- the branches of each arm that has a type do
+-- each branch of an arm that has a type leads to a node of the graph, or ends
 abbrev pub AllLeadWithin : PlainGraph → Node → Type 0
 AllLeadWithin graph node =
     (arm : Arm) → Contains node.arms arm → (rtype : RrType) → has_bit arm.types rtype ≡ true

@@ -13,7 +13,7 @@ use Rattle.net_model.specs.declared.walk.State.{State}
 use Rattle.graph_form.specs.FirstPath.{place_eq}
 use Rattle.graph_form.proofs.ShownKinds.{place_itself, same_place}
 
--- both are there and are one, or neither is there
+-- both values are there and are equal, or neither is there
 abbrev pub maybe_eq : {X : Type 0} → (X → X → Bool) → Option X → Option X → Bool
 maybe_eq eq None None = true
 maybe_eq eq (Some a) (Some b) = eq a b
@@ -88,6 +88,6 @@ state_equivalence = decided state_eq state_decides
 abbrev pub state_writes : State → List (List ℕ)
 state_writes state = state.server ++ (state.name ++ fed.u32 state.used)
 
--- one state makes the same writes
+-- of equal states the same is hashed
 pub equal_writes : (a b : State) → IsTrue (state_eq a b) → state_writes a ≡ state_writes b
 equal_writes a b e = ap state_writes ((state_decides a b).0 e)

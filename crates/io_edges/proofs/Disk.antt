@@ -36,14 +36,14 @@ SameElsewhere-put files name octets failures other apart =
     by_order Equal e = absurd (apart (exact_bytes other name e))
     by_order Greater e = refl
 
--- the same, whether it was put there or, because memory ran out, not
+-- what was told stays told, whether a file was put under a new name or memory ran out
 pub StaysTold-placed : {T E : Type 0} (r : Result T E) (old new : FileMap) (name octets : List ℕ) (failures : ℕ) → map.get old name ≡ None → OnOk r (new ≡ with_octets old name octets failures) → OnErr r (new ≡ old) → StaysTold (tells old) (tells new)
 StaysTold-placed (Ok _) old new name octets failures none put kept =
     subst (λ after. StaysTold (tells old) (tells after)) (sym put) (StaysTold-put old name octets failures none)
 StaysTold-placed (Err _) old new name octets failures none put kept =
     λ other. inr (ap (λ after. tells after other) kept)
 
--- of each other name the same is told, whether octets were put under the name or, because memory ran out, not
+-- of each other name the same is told, whether octets were put under a name or memory ran out
 pub SameElsewhere-placed : {T E : Type 0} (r : Result T E) (old new : FileMap) (name octets : List ℕ) (failures : ℕ) → OnOk r (new ≡ with_octets old name octets failures) → OnErr r (new ≡ old) → SameElsewhere name (tells old) (tells new)
 SameElsewhere-placed (Ok _) old new name octets failures put kept =
     subst (λ after. SameElsewhere name (tells old) (tells after)) (sym put) (SameElsewhere-put old name octets failures)

@@ -46,12 +46,12 @@ module _ {A : Type 0} where
       ∙ ap (cond (eq_by_cmp (slice_cmp nat_cmp) other name) (Some (stored file))) (sym (get-files_by_name old other))
       ∙ sym (finite.get-insert nat_list_cmp_total (files_by_name old.entries) name (stored file) other))
 
-  -- a name under which nothing is stored
+  -- a failure at a name under which no file is stored changes no file
   pub unchanged-with_failure : (name : List ℕ) (m : BTreeMap (String A) StoredFile) → None ≡ get_by_text m name → files_by_name m.entries ≡ with_failure (files_by_name m.entries) name
   unchanged-with_failure name m none =
       sym (ap (failed_once_more (files_by_name m.entries) name) (get-files_by_name m name ∙ ap (option_map stored) (sym none)))
 
-  -- a name whose file has one failure more
+  -- a failure at a name under which a file is stored raises the file's count
   pub changed-with_failure : (name : List ℕ) (file : StoredFile) (failures : ℕ) (old new : BTreeMap (String A) StoredFile) → Some file ≡ get_by_text old name → failures ≡ risen file.failures → WritesThrough string_cmp (λ key. slice_cmp nat_cmp name (string_bytes key)) old (record { octets = file.octets; failures = failures }) new → files_by_name new.entries ≡ with_failure (files_by_name old.entries) name
   changed-with_failure name file failures old new found more written =
       files_by_name-update name (record { octets = file.octets; failures = failures }) old new (written.3 (subst IsSome found refl))

@@ -28,7 +28,7 @@ pub failures_of-with_file : (m : FilesInMemory) (name octets other : List ℕ) �
 failures_of-with_file m name octets other =
     sym (at_change (λ old new. option_map_or (λ file. file.failures) old m.absent ≡ option_map_or (λ file. file.failures) new m.absent) (λ o. refl) m.files name _ refl other)
 
--- the same, whether the file was put there or, because memory ran out, not
+-- no count of failures changes, whether a file was put under a name or memory ran out
 pub failures_of-added : {T E : Type 0} (r : Result T E) (old new : FilesInMemory) (name octets : List ℕ) → OnOk r (new ≡ with_file old name octets) → OnErr r (new ≡ old) → (other : List ℕ) → failures_of new other ≡ failures_of old other
 failures_of-added (Ok _) old new name octets put kept other = ap (λ m. failures_of m other) put ∙ failures_of-with_file old name octets other
 failures_of-added (Err _) old new name octets put kept other = ap (λ m. failures_of m other) kept

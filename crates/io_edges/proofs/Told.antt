@@ -18,7 +18,7 @@ TellsAll-same before after all stays = λ i name. at_name name (stays name) i wh
   at_name name (inl untold) = absurd (all name untold)
   at_name name (inr same) = same
 
--- what is told is no shorter than what was read of it
+-- a number below that of the octets read of a file is below the number of its octets
 pub first_told-long : (told : Told) (at n : ℕ) → length (first_told told at) ≡ at → n < at → IsToldAnd told (λ octets. n < length octets)
 first_told-long Untold at n long less = absurd (omega arith)
 first_told-long NotHeld at n long less = absurd (omega arith)

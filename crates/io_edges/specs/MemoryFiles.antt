@@ -78,7 +78,7 @@ abbrev pub after_failure : FilesInMemory → List ℕ → FilesInMemory
 after_failure m name =
     record m { files = with_failure m.files name; absent = if is_none (map.get m.files name) then risen m.absent else m.absent }
 
--- after one call more
+-- the files in memory after one call more, at this name
 abbrev pub after_call : FilesInMemory → List ℕ → FilesInMemory
 after_call m name =
     let counted : FilesInMemory = record m { calls = risen m.calls } in

@@ -39,7 +39,7 @@ room_for s piece = min (length piece) (room_left s)
 abbrev pub refuses_next : SinkInMemory → List ℕ → Bool
 refuses_next s piece = is_listed s.fails (risen s.calls) || (nat_lt 0 (length piece) && room_for s piece == 0)
 
--- after one call more, with this piece
+-- the sink in memory after one call more, with this piece
 abbrev pub after_write : SinkInMemory → List ℕ → SinkInMemory
 after_write s piece =
     let counted : SinkInMemory = record s { calls = risen s.calls } in

@@ -17,7 +17,7 @@ use Rattle.job_scope.specs.Scoped.{scoped, widened}
 pub scope_covers : (config : Config) (name : Labels) → Covers (widened config name) config
 scope_covers config name = joined_covers (config ∷ []) (name ∷ []) config (has_first config [])
 
--- and it names the scope's name, which is so in its class tree
+-- the widened ground names the scope's name, which is in its class tree
 pub is_covered : (config : Config) (rewrites : ℕ) (name : Labels) → IsName name → IsCovering (scoped config rewrites name)
 is_covered config rewrites name is =
     record { covers = scope_covers config name; in_tree = (given_named (config ∷ []) (name ∷ []) name (has_first name []), is) }
@@ -30,7 +30,7 @@ children_of config name = trees.names_below (scoped config 0 name) (scope_covers
 abbrev pub verdict_of : Config → ℕ → ℕ → Labels → Labels → NameVerdict ClassVerdict
 verdict_of config rewrites states name = trees.verdict_of (scoped config rewrites name) (scope_covers config name) states
 
--- they are the values of the scope
+-- the names below each name of the scope, with the verdicts, are the scope's values
 pub values : (config : Config) (rewrites states : ℕ) (name : Labels)
     → AreValues (scoped config rewrites name) states (children_of config name) (verdict_of config rewrites states name)
 values config rewrites states name = trees.values (scoped config rewrites name) (scope_covers config name) states

@@ -21,12 +21,12 @@ use Rattle.label_graph.specs.Pairs.{AreSame}
 use Rattle.label_graph.specs.Targets.{IsPrefixFrom}
 use Rattle.label_graph.proofs.Passing.{some_seen, some_flat}
 
--- a front begins the name
+-- a front of a name begins it
 pub front_begins : (name front : Labels) → IsPrefixFrom 0 name front → Begins front name
 front_begins name front (count, low, high, is) =
     (drop count name, ap (λ (n : Labels). n ++ drop count name) is ∙ take-append-drop count name)
 
--- and what begins it is one
+-- a name that begins another is a front of it
 pub begins_front : (name front : Labels) → Begins front name → IsPrefixFrom 0 name front
 begins_front name front (below, e) = (
   length front,
@@ -35,7 +35,7 @@ begins_front name front (below, e) = (
   sym (take_at front below (length front) refl) ∙ ap (take (length front)) e,
 )
 
--- the name is a front of one of the others
+-- the name is a front of one of the names of the list
 abbrev pub IsFrontOf : Labels → List Labels → Type 0
 IsFrontOf name others = SomeItem (λ other. IsPrefixFrom 0 other name) others
 
@@ -102,7 +102,8 @@ joined_names configs given name = (there, back) where
         ]
       ]
 
--- what has just these names, and the redirections of the configurations, has what the joined ground has
+-- a ground with the root, the fronts of origins, owners and given names, and the configurations' redirections, is the
+-- joined ground
 pub same_as_joined : (configs : List Config) (given : List Labels) (base : Ground)
     → ((name : Labels) → Contains base.names name ↔ ((Contains ([] ∷ []) name ⊎ SomeItem (IsInConfig name) configs) ⊎ IsFrontOf name given))
     → ((pair : Redirection) → Contains base.redirections pair ↔ SomeItem (λ config. Contains (redirections_of config) pair) configs)
@@ -126,7 +127,7 @@ nothing_above : (above below : Labels) → [] ≡ above ++ below → [] ≡ abov
 nothing_above [] below e = refl
 nothing_above (label ∷ above) below e = absurd cc
 
--- the root alone has its prefixes
+-- the list of the root alone has the prefixes of its names
 pub root_alone : HavePrefixes ([] ∷ [])
 root_alone =
     record {
@@ -156,7 +157,7 @@ module _ {X : Type 0} (config_of : X → Config) (configs : List X) where
         ])),
       )
 
-  -- the redirections of the configurations alone
+  -- the redirections put into an empty list are those of the configurations
   pub from_nothing : (pair : Redirection) (none there : Type 0) → (none → ⊥)
       → (there ↔ (none ⊎ SomeItem (λ (x : X). Contains (redirections_of (config_of x)) pair) configs))
       → there ↔ SomeItem (λ config. Contains (redirections_of config) pair) (map config_of configs)
@@ -185,7 +186,7 @@ base_redirections config redirection = (
 
 -- ---- such a ground is closed
 
--- it has the root, the prefixes of its names, and the owners of its redirections
+-- the joined ground has the root, the prefixes of its names, and the owners of its redirections
 pub joined_closed : (configs : List Config) (given : List Labels) → IsClosed (joined_ground configs given)
 joined_closed configs given =
     record {
@@ -193,11 +194,11 @@ joined_closed configs given =
       redirected = owner_is_base configs given;
     }
 
--- so is that of a configuration
+-- the ground of a configuration has the root, the prefixes of its names, and the owners of its redirections
 pub ground_closed : (config : Config) → IsClosed (ground_of config)
 ground_closed config = subst IsClosed (alone_is_own config) (joined_closed (config ∷ []) [])
 
--- and one with the same names and redirections
+-- a ground with the same names and redirections as a closed one is closed
 pub base_closed : (base ground : Ground) → AreSame base ground → IsClosed ground → IsClosed base
 base_closed base ground same closed =
     record {

@@ -57,14 +57,14 @@ module _ (names : List Labels) (place : ℕ) where
         (subst (λ (n : Labels). name_cmp (name_at names one) n ≡ Less) (last_is other second)
         (order one other [] (rising i j d before within) second.inside)))
 
-    -- one of them has the label
+    -- a name one label below with this last label is the name at the place with the label below
     pub child_found : (label : List ℕ) (other : ℕ) → Contains row other → last_of other ≡ label
         → (other < length names) × (name_at names other ≡ name_at names place ++ label ∷ [])
     child_found label other has same =
         let next = (below other).0 has in
         (next.inside, last_is other next ∙ ap (λ (l : List ℕ). name_at names place ++ l ∷ []) same)
 
-    -- or none has it
+    -- if no name one label below has the label, the name with it is none of the names
     pub none_found : (label : List ℕ) → place < length names → ((other : ℕ) → Contains row other → last_of other ≡ label → ⊥)
         → Contains names (name_at names place ++ label ∷ []) → ⊥
     none_found label within none has =

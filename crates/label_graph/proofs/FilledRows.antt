@@ -8,11 +8,11 @@ use Rattle.label_graph.specs.Rows.{IsFilledOn, all_rows}
 abbrev empty : ℕ → List (List ℕ)
 empty count = replicate count []
 
--- at first none was put
+-- at first no empty row was put
 pub filled_none : (rows : List (List ℕ)) (place : ℕ) → IsFilledOn rows place rows
 filled_none rows place = record { more = 0; is = sym (append-nil rows); within = omega arith }
 
--- one more was put
+-- one empty row more was put
 pub filled_more : (rows : List (List ℕ)) (place : ℕ) (after more : List (List ℕ)) → IsFilledOn rows place after → length after ≤ place → more ≡ after ++ [] ∷ []
     → IsFilledOn rows place more
 filled_more rows place after more filled short is =
@@ -28,7 +28,7 @@ pub all_len : (filled : List (List ℕ)) (count : ℕ) → length filled ≤ cou
 all_len filled count within =
     omega (arith, within, length-append filled (empty (count - length filled)), length-replicate {A = List ℕ} (count - length filled) [])
 
--- they are those they were
+-- empty rows that are put at the end leave the rows of all places as they were
 pub filled_same : (rows after : List (List ℕ)) (place count : ℕ) → IsFilledOn rows place after → length rows ≤ count → place < count
     → all_rows after count ≡ all_rows rows count
 filled_same rows after place count filled within low =
@@ -46,7 +46,7 @@ filled_set rows place count row within =
     ap (λ (n : ℕ). slice_set rows place row ++ empty (count - n)) (length-set rows place row)
     ∙ sym (set-append_left rows (empty (count - length rows)) place row within)
 
--- one more place stands in a row
+-- one place more stands in the row of a place
 pub filled_put : (rows after kept : List (List ℕ)) (place other count : ℕ) → IsFilledOn rows place after → length rows ≤ count → place < count
     → place < length after → kept ≡ slice_set after place (get_or after place [] ++ other ∷ [])
     → all_rows kept count ≡ slice_set (all_rows rows count) place (get_or (all_rows rows count) place [] ++ other ∷ [])

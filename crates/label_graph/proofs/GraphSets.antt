@@ -73,7 +73,7 @@ module _ (targets : Targets) (reads : List (List ℕ)) (is : IsGraph targets rea
             );
           }
 
-  -- the live set of the root
+  -- the places that are found for the root are its live set
   pub root_set : (root : ℕ) (result : List ℕ) → root < length targets.names → name_at targets.names root ≡ []
       → ((other : ℕ) → Contains result other ↔ SomeItem (IsFrom targets reads other) (root ∷ [])) → IsLiveSet (ground_in targets) [] result
   root_set root result below root_is are =
@@ -85,7 +85,7 @@ module _ (targets : Targets) (reads : List (List ℕ)) (is : IsGraph targets rea
       (λ place under at. subst (Contains (root ∷ [])) (one_place targets.names is.are.order root place below under (root_is ∙ sym at)) (has_first root []))
       are
 
-  -- that of a name with a label more
+  -- the places that a label's steps and the targets' links give are the live set of the name with the label
   pub step_set : (name : Labels) (label : List ℕ) (live places result : List ℕ) → IsLiveSet (ground_in targets) name live
       → ((other : ℕ) → Contains places other ↔ SomeItem (IsStep targets.names label other) live)
       → ((other : ℕ) → Contains result other ↔ SomeItem (IsFrom targets reads other) places)

@@ -21,19 +21,19 @@ pairs_strict R (x ∷ xs) sorted (suc i) (suc j) d before within = pairs_strict 
 module _ {X : Type 0} (R : X → X → Ordering) (o : IsTotalOrder R) (E : X → X → Bool) (ties : (x y : X) → E x y ≡ eq_by_cmp R x y)
     (equal : IsEquivalence E) (exact : (x y : X) → E x y ≡ true → x ≡ y) (items list : List X) (is : IsInOrderOf R E items list)
   where
-    -- it is in order, each once
+    -- a list that was put in order has its items in order, each once
     pub once_in_order : AllPairs (λ a b. R a b ≡ Less) list
     once_in_order =
         subst (AllPairs (λ a b. R a b ≡ Less)) (sym is.once)
         (pairs_strict R (dedup E is.sorted) (IsStrictlySortedBy-dedup o ties is.sorted is.order))
 
-    -- it has the items
+    -- a list that was put in order has each of the items
     pub in_order_has : (x : X) → Contains items x → Contains list x
     in_order_has x has =
         subst (λ (xs : List X). Contains xs x) (sym is.once)
         (Contains-dedup equal exact is.sorted x (Contains-permutation items is.sorted x is.same has))
 
-    -- and no others
+    -- a list that was put in order has no other items
     pub from_in_order : (x : X) → Contains list x → Contains items x
     from_in_order x has =
         Contains-permutation is.sorted items x (IsPermutation-sym items is.sorted is.same)

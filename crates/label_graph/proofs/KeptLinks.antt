@@ -12,7 +12,7 @@ use Rattle.label_graph.specs.LinkRows.{link, AreKept, AreAdded}
 use Rattle.label_graph.specs.Rows.{RowHas}
 use Rattle.label_graph.proofs.RowItems.{put_there, put_keeps, from_put}
 
--- items that differ, with one more that isn't among them
+-- items that differ do so with one more that isn't among them
 pub differ_more : {X : Type 0} (xs : List X) (x : X) → AllPairs (λ a b. a ≢ b) xs → (Contains xs x → ⊥) → AllPairs (λ a b. a ≢ b) (xs ++ x ∷ [])
 differ_more [] x differ new i j d before within = absurd (omega arith)
 differ_more (y ∷ xs) x differ new zero zero d before within = absurd (omega arith)
@@ -31,9 +31,11 @@ differ_more (y ∷ xs) x differ new (suc i) (suc j) d before within =
 module _ (links : List Link) (bases fronts : List (List ℕ)) (one : Link) (kept : AreKept links bases fronts)
     (front : one.front < length bases) (base : one.base < length fronts) (new : RowHas bases one.front one.base → ⊥)
   where
+    -- the rows of base names once the link is put at the end of its front's row
     abbrev pub bases_after : List (List ℕ)
     bases_after = slice_set bases one.front (get_or bases one.front [] ++ one.base ∷ [])
 
+    -- the rows of fronts once the link is put at the end of its base name's row
     abbrev pub fronts_after : List (List ℕ)
     fronts_after = slice_set fronts one.base (get_or fronts one.base [] ++ one.front ∷ [])
 
@@ -113,7 +115,7 @@ added_known links one known =
       only = λ other has. inl has;
     }
 
--- links, and then more
+-- links that were added, and then more, were added together
 pub added_then : (before xs middle ys after : List Link) → AreAdded before xs middle → AreAdded middle ys after → AreAdded before (xs ++ ys) after
 added_then before xs middle ys after first second =
     record {
@@ -143,7 +145,7 @@ row_tells row k found =
     let (y, has, same) = from_any (λ (n : ℕ). nat_eq n k) row found in
     subst (Contains row) (eqb-true y k same) has
 
--- and it finds each
+-- the test of a row finds a number exactly if it is in the row
 pub row_decides : (row : List ℕ) (k : ℕ) (found : Bool) → found ≡ list_any (λ y. nat_eq y k) row → IsTrue found ↔ Contains row k
 row_decides row k found is = (
   λ yes. row_tells row k (sym is ∙ yes),

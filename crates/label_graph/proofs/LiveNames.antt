@@ -12,16 +12,16 @@ IsLive ground name base = Contains ground.names base × ReadsOnTo ground.redirec
 
 -- K says what is known of which fronts of targets
 module _ (ground : Ground) (K : Labels → Labels → Type 0) where
-  -- the base names one label below those of P
+  -- the base names one label below those with the property
   abbrev pub Stepped : (Labels → Type 0) → List ℕ → Labels → Type 0
   Stepped P label base = Contains ground.names base × ((above : Labels) × P above × (base ≡ above ++ label ∷ []))
 
-  -- those of P, and what is known of the targets of redirections whose owners are of P
+  -- the base names with the property, and what is known of the targets of redirections whose owners have it
   abbrev pub Closed : (Labels → Type 0) → Labels → Type 0
   Closed P base =
       P base ⊎ ((redirection : Redirection) × Contains ground.redirections redirection × P redirection.owner × K redirection.target base)
 
-  -- those that are reached from P by labels
+  -- the base names that are reached from those with the property by labels, closed under redirections before each
   abbrev pub ReachedFrom : (Labels → Type 0) → Labels → Labels → Type 0
   ReachedFrom P [] base = P base
   ReachedFrom P (label ∷ rest) base = ReachedFrom (Stepped (Closed P) label) rest base
@@ -30,6 +30,7 @@ module _ (ground : Ground) (K : Labels → Labels → Type 0) where
   abbrev pub IsRoot : Labels → Type 0
   IsRoot base = base ≡ []
 
+  -- the base name is in the live set that is found from the root along the labels of the name
   abbrev pub Live : Labels → Labels → Type 0
   Live name base = Closed (ReachedFrom IsRoot name) base
 
@@ -109,7 +110,7 @@ module _ (ground : Ground) (K : Labels → Labels → Type 0) where
         at_root here base (inr (redirection, among, same, reads)) =
             known_join [] redirection base here among (subst (K []) (sym same) (known_root here)) reads
 
-        -- so what is live at one is known of it
+        -- each base name in the live set of a front of targets is known of it
         pub live_known : (front base : Labels) → T front → Live front base → K front base
         live_known front base is live = known_from IsRoot [] front base (at_root (fronts [] front is)) is live
 
@@ -136,7 +137,7 @@ module _ (ground : Ground) (K : Labels → Labels → Type 0) where
             (closed_more (ReachedFrom (ReachedFrom IsRoot redirection.owner) once.below) (ReachedFrom IsRoot (redirection.owner ++ once.below))
             (λ b. reached_back IsRoot redirection.owner once.below b) base from_owner)
 
-        -- so what a front reads on to is known of it
+        -- each base name to which a front of targets reads on is known of it
         pub all_known : (front base : Labels) → T front → IsLive ground front base → K front base
         all_known front base is (has, (between, along)) = live_known front base is (live_is_complete front between base has along)
 
@@ -204,7 +205,7 @@ module _ (ground : Ground) (closed : IsClosed ground) where
       closed_is_live (Stepped ground (IsLive ground) (IsLive ground name) label) (name ++ label ∷ [])
       (step_is_live (IsLive ground name) name label (λ b live. live)) base is
 
-  -- that of the root: the root, and what is read from there
+  -- the live set of the root is the root, and what is read from there
   pub live_at_root : (base : Labels) → IsLive ground [] base → Closed ground (IsLive ground) (IsRoot ground (IsLive ground)) base
   live_at_root base is = live_of_all [] base is
 

@@ -62,7 +62,7 @@ module _ (targets : Targets) (reads : List (List ℕ)) (is : IsGraph targets rea
       (step_set targets reads is front label live (flat_map (step label) live) next of (step_has label live) (closed_has (flat_map (step label) live))) in
       (places, subst (λ (n : Labels). IsLiveSet (ground_in targets) n places) (append_assoc front (label ∷ []) rest) found)
 
-  -- the live set of a name
+  -- each name has a live set in a graph
   pub live_of_name : (name : Labels) → (places : List ℕ) × IsLiveSet (ground_in targets) name places
   live_of_name name =
       let (root, below, at) = place_among targets.names [] is.are.closed.names.root in

@@ -57,7 +57,7 @@ module _ {K X : Type 0} (R : K → K → Ordering) (o : IsTotalOrder R) (exact :
             cc)
       ]
 
--- what one finds among names in order
+-- a search among names in order finds the place of the name, or the name isn't among them
 pub searched : (names : List Labels) (name : Labels) (r : Result ℕ ℕ) → AreInOrder names → IsSearchInRange r (length names)
     → IsBinarySearchResult (λ other. name_cmp other name) names r
     → MatchResult r (λ place. (place < length names) × (name_at names place ≡ name)) (λ _. Contains names name → ⊥)
@@ -66,7 +66,7 @@ searched names name (Ok place) order below holds =
 searched names name (Err place) order within holds =
     λ has. searched_by name_cmp names_total same_names (λ (n : Labels). n) name names (Err place) order within holds name has refl
 
--- labels below names: one label less on both sides
+-- equal names have the same labels above their last one
 pub same_above : (a b : Labels) (x y : List ℕ) → a ++ x ∷ [] ≡ b ++ y ∷ [] → a ≡ b
 same_above a b x y e =
     let sizes : length a ≡ length b = omega (arith, ap length e, length-append a (x ∷ []), length-append b (y ∷ [])) in

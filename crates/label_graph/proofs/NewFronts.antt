@@ -23,7 +23,7 @@ module _ (old new : List Labels) (name : Labels) (from : ℕ) (have : HavePrefix
     (known : (count : ℕ) → count < from → Contains old (take count name))
     (put : (front : Labels) → Contains new front ↔ (Contains old front ⊎ IsPrefixFrom from name front))
   where
-    -- the others were there
+    -- the list with the new fronts has the fronts that it had and all of the name
     pub all_fronts : (front : Labels) → Contains new front ↔ (Contains old front ⊎ IsPrefixFrom 0 name front)
     all_fronts front = (
       λ has. elim ((put front).0 has) [
@@ -39,7 +39,7 @@ module _ (old new : List Labels) (name : Labels) (from : ℕ) (have : HavePrefix
       ],
     )
 
-    -- the prefixes of each are there again
+    -- the list with the new fronts has the prefixes of each of its names
     pub prefixes_again : HavePrefixes new
     prefixes_again =
         record {
@@ -50,7 +50,7 @@ module _ (old new : List Labels) (name : Labels) (from : ℕ) (have : HavePrefix
           ];
         }
 
--- the prefixes of each are there in another order
+-- a list in another order has the prefixes of its names, if it had them
 pub prefixes_moved : (old new : List Labels) → IsPermutation old new → HavePrefixes old → HavePrefixes new
 prefixes_moved old new moved have =
     record {

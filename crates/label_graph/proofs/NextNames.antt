@@ -21,21 +21,21 @@ single [] e = absurd (omega (arith, e))
 single (x ∷ []) e = refl
 single (x ∷ y ∷ rest) e = absurd (omega (arith, e))
 
--- the label of each
+-- the labels of the names one below, one for each
 abbrev pub labels_of : List NextName → List (List ℕ)
 labels_of nexts = map (λ next. next.label) nexts
 
--- a label more
+-- the labels of names one below with one more are theirs and its label
 pub labels_more : (nexts : List NextName) (next : NextName) → labels_of (nexts ++ next ∷ []) ≡ labels_of nexts ++ next.label ∷ []
 labels_more nexts next = map-append (λ (n : NextName). n.label) nexts (next ∷ [])
 
 module _ (names : List Labels) (place : ℕ) (row : List ℕ) where
-  -- the first so many of the row have the labels one after another
+  -- the first so many names of the row have these last labels, one after another
   abbrev pub AreLasts : List NextName → ℕ → Type 0
   AreLasts nexts count =
       (k : ℕ) → k < count → name_at names (get_or row k 0) ≡ name_at names place ++ get_or (labels_of nexts) k [] ∷ []
 
-  -- one more has the next
+  -- one name more of the row has the next last label
   pub lasts_more : (nexts : List NextName) (next : NextName) (count : ℕ) → length nexts ≡ count → AreLasts nexts count
       → name_at names (get_or row count 0) ≡ name_at names place ++ next.label ∷ [] → AreLasts (nexts ++ next ∷ []) (count + 1)
   lasts_more nexts next count len are at k low =

@@ -28,18 +28,18 @@ same_then one between other left right =
     }
 
 module _ (items list : List Labels) (is : IsInOrderOf name_cmp name_eq items list) where
-  -- they are in order
+  -- names that were put in order stand in order
   pub names_ordered : AreInOrder list
   names_ordered = once_in_order name_cmp names_total name_eq (lists_ties label_cmp texts_ties) (lists_equiv nat_list_eq_equiv) (λ x y. (name_eq_decides x y).0) items list is
 
-  -- they are the same
+  -- names that were put in order are the same names
   pub names_same : (name : Labels) → Contains list name ↔ Contains items name
   names_same name = (
     from_in_order name_cmp names_total name_eq (lists_ties label_cmp texts_ties) (lists_equiv nat_list_eq_equiv) (λ x y. (name_eq_decides x y).0) items list is name,
     in_order_has name_cmp names_total name_eq (lists_ties label_cmp texts_ties) (lists_equiv nat_list_eq_equiv) (λ x y. (name_eq_decides x y).0) items list is name,
   )
 
-  -- they have their prefixes, if they had them before
+  -- names that were put in order have their prefixes, if they had them before
   pub prefixes_ordered : HavePrefixes items → HavePrefixes list
   prefixes_ordered have =
       record {
@@ -47,7 +47,7 @@ module _ (items list : List Labels) (is : IsInOrderOf name_cmp name_eq items lis
         prefixes = λ above below has. (names_same above).1 (have.prefixes above below ((names_same (above ++ below)).0 has));
       }
 
-  -- their ground is closed, if it was so before
+  -- the ground of names that were put in order is closed, if it was before
   pub ground_ordered : (pairs : List Pair) → IsClosed (ground_with items pairs) → IsClosed (ground_with list pairs)
   ground_ordered pairs closed =
       record {
@@ -55,6 +55,6 @@ module _ (items list : List Labels) (is : IsInOrderOf name_cmp name_eq items lis
         redirected = λ redirection among. (names_same redirection.owner).1 (closed.redirected redirection among);
       }
 
-  -- and has what it had
+  -- the ground of names that were put in order is the same
   pub ground_same : (pairs : List Pair) → AreSame (ground_with list pairs) (ground_with items pairs)
   ground_same pairs = record { names = names_same; redirections = λ redirection. (λ has. has, λ has. has) }

@@ -20,7 +20,7 @@ begins_above (x ∷ front) below (y ∷ parent) label e fewer =
     let (rest, is) = begins_above front below parent label (ap (drop 1) e) (omega (arith, fewer)) in
     (rest, ap (λ (l : Labels). x ∷ l) is ∙ ap (λ (z : List ℕ). z ∷ parent) (ap (λ (l : Labels). get_or l 0 []) e))
 
--- a name that begins one no longer than it is that one
+-- a name that begins another no longer than it is that other
 pub whole_front : (front name : Labels) → Begins front name → length name ≤ length front → name ≡ front
 whole_front [] [] begins few = refl
 whole_front [] (x ∷ name) begins few = absurd (omega (arith, few))
@@ -91,7 +91,7 @@ module _ (names : List Labels) (order : AreInOrder names) (closed : HavePrefixes
             same : (q : ℕ) → place ≤ q → q ≤ place → place ≡ q
             same q behind not_after = omega (arith, behind, not_after)
 
-    -- one that it begins, and that has fewer labels than the name, is the one above
+    -- a name that the name above begins, with fewer labels than the name, is the name above
     pub next_below : (above : ℕ) → above < length names
         → ((front : Labels) (label : List ℕ) → name_at names place ≡ front ++ label ∷ [] → Begins front (name_at names above))
         → length (name_at names above) < length (name_at names place) → IsNextBelow names above place

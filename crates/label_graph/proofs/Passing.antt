@@ -10,7 +10,7 @@ use Rattle.label_graph.specs.Graphs.{SomeItem}
 use Rattle.dns_data.proofs.Membership.{none_in_nil, has_first, first_or_later, map_has, from_map, flat_map_has, from_flat_map}
 
 module _ {X : Type 0} (P : X → Type 0) (xs : List X) (k : ℕ) (x : X) (below : k < length xs) (is : x ≡ get_or xs k x) where
-  -- of the items passed or the next
+  -- if an item passed before has the property or the next has it, one of the items passed then has it
   pub some_more : SomeItem P (take k xs) ⊎ P x → SomeItem P (take (k + 1) xs)
   some_more (inl (y, has, p)) = (
     y,
@@ -36,7 +36,7 @@ module _ {X : Type 0} (P : X → Type 0) (xs : List X) (k : ℕ) (x : X) (below 
         ]
       ]
 
--- of all items in the end
+-- an item with a property among as many first items as there are is one of all
 pub some_all : {X : Type 0} (P : X → Type 0) (xs : List X) (k : ℕ) → length xs ≤ k → SomeItem P (take k xs) → SomeItem P xs
 some_all {X} P xs k over some = subst (SomeItem P) (take_all k xs over) some
 
@@ -46,7 +46,7 @@ all_some {X} P xs k over some = subst (SomeItem P) (sym (take_all k xs over)) so
 
 -- ---- what a list has, told item by item
 
--- in a loop over a list: what was there before, or comes from an item passed
+-- in a loop over a list: what was there before the loop, or comes from an item passed
 pub more_iff : {X : Type 0} (P : X → Type 0) (xs : List X) (k : ℕ) (x : X) → k < length xs → x ≡ get_or xs k x → (base before after : Type 0)
     → (before ↔ (base ⊎ SomeItem P (take k xs))) → (after ↔ (before ⊎ P x)) → after ↔ (base ⊎ SomeItem P (take (k + 1) xs))
 more_iff P xs k x below is base before after was now = (
@@ -63,7 +63,7 @@ more_iff P xs k x below is base before after was now = (
   ],
 )
 
--- the same where nothing was there
+-- in a loop over a list, before which nothing was there: what comes from an item passed
 pub more_some : {X : Type 0} (P : X → Type 0) (xs : List X) (k : ℕ) (x : X) → k < length xs → x ≡ get_or xs k x → (before after : Type 0)
     → (before ↔ SomeItem P (take k xs)) → (after ↔ (before ⊎ P x)) → after ↔ SomeItem P (take (k + 1) xs)
 more_some P xs k x below is before after was now = (
@@ -74,31 +74,31 @@ more_some P xs k x below is before after was now = (
   ],
 )
 
--- what comes from all items
+-- in a loop over a list, once all items are passed: what comes from some item
 pub all_iff : {X : Type 0} (P : X → Type 0) (xs : List X) (k : ℕ) → length xs ≤ k → (there : Type 0)
     → (there ↔ SomeItem P (take k xs)) → there ↔ SomeItem P xs
 all_iff P xs k over there was = (λ has. some_all P xs k over (was.0 has), λ some. was.1 (all_some P xs k over some))
 
--- what was there before, or comes from all items
+-- in a loop over a list, once all items are passed: what was there before, or comes from some item
 pub whole_iff : {X : Type 0} (P : X → Type 0) (xs : List X) (k : ℕ) → length xs ≤ k → (base there : Type 0)
     → (there ↔ (base ⊎ SomeItem P (take k xs))) → there ↔ (base ⊎ SomeItem P xs)
 whole_iff {X} P xs k over base there was = subst (λ (l : List X). there ↔ (base ⊎ SomeItem P l)) (take_all k xs over) was
 
--- what was there before, or is so, where that is told in other words
+-- what was there before or has a property, if the property is told in other words
 pub told_iff : (base there one other : Type 0) → (there ↔ (base ⊎ one)) → (one ↔ other) → there ↔ (base ⊎ other)
 told_iff base there one other is same = (
   λ has. elim (is.0 has) [ inl b ↦ inl b | inr x ↦ inr (same.0 x) ],
   λ either. is.1 (elim either [ inl b ↦ inl b | inr y ↦ inr (same.1 y) ]),
 )
 
--- a list with another behind it
+-- two lists in a row have the items of both
 pub append_iff : {X : Type 0} (xs ys : List X) (x : X) → Contains (xs ++ ys) x ↔ (Contains xs x ⊎ Contains ys x)
 append_iff xs ys x = (
   Contains-append_cases xs ys x,
   λ either. elim either [ inl one ↦ Contains-append_left xs ys x one | inr two ↦ Contains-append_right xs ys x two ],
 )
 
--- an item put at the end, which is the only one that is so
+-- a list with the only item of a property put at its end has its items and what has the property
 pub push_iff : {X : Type 0} (xs : List X) (x : X) (P : X → Type 0) → P x → ((y : X) → P y → x ≡ y) → (y : X) → Contains (xs ++ x ∷ []) y ↔ (Contains xs y ⊎ P y)
 push_iff xs x P p only y = (
   λ has. elim (Contains-append_cases xs (x ∷ []) y has) [
@@ -111,14 +111,14 @@ push_iff xs x P p only y = (
   ],
 )
 
--- lists of items in a row, with one item more
+-- the lists of the items up to the next, in a row, end with that of the next
 pub flat_more : {X Y : Type 0} (f : X → List Y) (xs : List X) (k : ℕ) (x : X) → k < length xs → x ≡ get_or xs k x
     → flat_map f (take (k + 1) xs) ≡ flat_map f (take k xs) ++ f x
 flat_more {X = X} {Y = Y} f xs k x below is =
     ap (flat_map f) (take_more xs k x below ∙ ap (λ (y : X). take k xs ++ y ∷ []) (sym is)) ∙ flat_map-append f (take k xs) (x ∷ [])
     ∙ ap (λ (l : List Y). flat_map f (take k xs) ++ l) (append-nil (f x))
 
--- a list of one item
+-- what comes from the only item of a list comes from some item of it
 pub one_iff : (P : ℕ → Type 0) (xs : List ℕ) → length xs ≡ 1 → (there : Type 0) → (there ↔ P (get_or xs 0 0)) → there ↔ SomeItem P xs
 one_iff P [] e there is = absurd (omega (arith, e))
 one_iff P (x ∷ []) e there is = (
@@ -127,7 +127,7 @@ one_iff P (x ∷ []) e there is = (
 )
 one_iff P (x ∷ y ∷ xs) e there is = absurd (omega (arith, e))
 
--- the only item that is so
+-- a list of the only item with a property has just what has the property
 pub single_iff : {X : Type 0} (x : X) (P : X → Type 0) → P x → ((y : X) → P y → x ≡ y) → (y : X) → Contains (x ∷ []) y ↔ P y
 single_iff x P p only y = (
   λ has. elim (first_or_later x [] y has) [ inl same ↦ subst P same p | inr none ↦ absurd (none_in_nil y none) ],
@@ -136,21 +136,21 @@ single_iff x P p only y = (
 
 -- ---- other lists with the same items
 
--- of the items as they are seen
+-- some item has a property as it is seen exactly if some seen item has it
 pub some_seen : {X Y : Type 0} (f : X → Y) (P : Y → Type 0) (xs : List X) → SomeItem (λ x. P (f x)) xs ↔ SomeItem P (map f xs)
 some_seen f P xs = (
   λ (x, has, p). (f x, map_has f xs x has, p),
   λ (y, has, p). let (x, among, is) = from_map f xs y has in (x, among, subst P (sym is) p),
 )
 
--- of the items in another order
+-- some item has a property exactly if some item has it in another order
 pub some_moved : {X : Type 0} (P : X → Type 0) (xs ys : List X) → IsPermutation xs ys → SomeItem P xs ↔ SomeItem P ys
 some_moved P xs ys moved = (
   λ (x, has, p). (x, Contains-permutation xs ys x moved has, p),
   λ (x, has, p). (x, Contains-permutation ys xs x (IsPermutation-sym xs ys moved) has, p),
 )
 
--- what was there before, or comes from an item, where all were passed in another order
+-- in a loop over a list in another order, once all items are passed: what was there before, or comes from some item
 pub moved_iff : {X Y : Type 0} (f : X → Y) (P : Y → Type 0) (ys : List Y) (xs : List X) (k : ℕ) → IsPermutation ys (map f xs) → length xs ≤ k
     → (base there : Type 0) → (there ↔ (base ⊎ SomeItem (λ x. P (f x)) (take k xs))) → there ↔ (base ⊎ SomeItem P ys)
 moved_iff f P ys xs k moved over base there was = (

@@ -34,7 +34,7 @@ along_then redirections name [] via more last e then = subst (λ (n : Labels). R
 along_then redirections name (next ∷ rest) via more last (once, later) then =
     (once, along_then redirections next rest via more last later then)
 
--- readings in a row
+-- a name that reads on to a second, which reads on to a third, reads on to the third
 pub reads_then : (redirections : List Redirection) (name via last : Labels) → ReadsOnTo redirections name via
     → ReadsOnTo redirections via last → ReadsOnTo redirections name last
 reads_then redirections name via last (between, along) (more, then) =

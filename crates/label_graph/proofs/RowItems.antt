@@ -19,13 +19,13 @@ module _ (rows : List (List ℕ)) (place other : ℕ) (within : place < length r
   abbrev put : List (List ℕ)
   put = slice_set rows place (get_or rows place [] ++ other ∷ [])
 
-  -- the place that was put there is there
+  -- a place that was put into a row is there
   pub put_there : RowHas put place other
   put_there =
       subst (λ (row : List ℕ). Contains row other) (sym (get_or-set_same rows place (get_or rows place [] ++ other ∷ []) [] within))
       (Contains-append_right (get_or rows place []) (other ∷ []) other (has_first other []))
 
-  -- what was there still is
+  -- what was in the rows still is when a place is put into one
   pub put_keeps : (p q : ℕ) → RowHas rows p q → RowHas put p q
   put_keeps p q has =
       elim (same_or_not p place) [
@@ -37,7 +37,7 @@ module _ (rows : List (List ℕ)) (place other : ℕ) (within : place < length r
             subst (λ (row : List ℕ). Contains row q) (sym (get_or-set_other rows place p (get_or rows place [] ++ other ∷ []) [] apart)) has
       ]
 
-  -- and nothing else came
+  -- nothing but the place that was put came to the rows
   pub from_put : (p q : ℕ) → RowHas put p q → RowHas rows p q ⊎ ((p ≡ place) × (q ≡ other))
   from_put p q has =
       elim (same_or_not p place) [

@@ -37,7 +37,7 @@ ends_rise last start [] place rise within = absurd (omega (arith, within))
 ends_rise last start (end ∷ ends) zero rise within = (rise.0, up_to_last last end ends rise.1)
 ends_rise last start (end ∷ ends) (suc place) rise within = ends_rise last end ends place rise.1 (omega (arith, within))
 
--- with one end more they rise to it
+-- ends that never fall do so with one end more, if it isn't before the last
 pub rise_more : (last more start : ℕ) (ends : List ℕ) → last ≤ more → RiseTo last start ends → RiseTo more start (ends ++ more ∷ [])
 rise_more last more start [] up same = (omega (arith, up, same), refl)
 rise_more last more start (end ∷ ends) up rise = (rise.0, rise_more last more end ends up rise.1)
@@ -54,7 +54,7 @@ part_put all row start same =
     ap (take (length (all ++ row) - start)) (drop_at all row start (sym same))
     ∙ take_all (length (all ++ row) - start) row (omega (arith, same, length-append all row))
 
--- one row more, put at the end
+-- a row that is put at the end of the numbers is one row more behind the others
 pub rows_more : (start : ℕ) (ends all row : List ℕ) → RiseTo (length all) start ends
     → rows_from start (ends ++ length (all ++ row) ∷ []) (all ++ row) ≡ rows_from start ends all ++ row ∷ []
 rows_more start [] all row same = ap (λ (r : List ℕ). r ∷ []) (part_put all row start same)
@@ -74,7 +74,7 @@ none_behind parents parent from found last end =
       none_before = λ place low high mine. absurd (omega (arith, last, end, low, high));
     }
 
--- before any child is put there is none
+-- before any child is put no place has a child
 pub chains_none : (parents first next : List ℕ) → first ≡ replicate (length parents) (length parents) → next ≡ replicate (length parents) (length parents)
     → AreChainsFrom parents first next (length parents)
 chains_none parents first next firsts_are nexts_are =
@@ -139,7 +139,7 @@ module _ (parents first next : List ℕ) (left parent found : ℕ) (are : AreCha
         | inr not_behind ↦ absurd (apart (omega (arith, low, not_behind)))
       ]
 
-  -- one place more
+  -- the chains of children are right from one place before on, once it is put in front of its parent's
   pub chains_more : AreChainsFrom parents put_first put_next left
   chains_more =
       record {
@@ -157,7 +157,7 @@ module _ (parents first next : List ℕ) (left parent found : ℕ) (are : AreCha
         ];
       }
 
--- from the place behind the root on, or where there is no place, they are whole
+-- chains from the place behind the root on are the chains of all places
 pub chains_whole : (parents first next : List ℕ) (left : ℕ) → AreChainsFrom parents first next left → left ≤ 1 → (0 < length parents → 0 < left)
     → AreChainsFrom parents first next 1
 chains_whole parents first next left are low some =
@@ -214,7 +214,7 @@ module _ (parents first next : List ℕ) (are : AreChainsFrom parents first next
         ],
       )
 
-  -- and has them in order
+  -- a chain from a parent's first child on has the children in order
   pub chain_rises : (parent from place : ℕ) (row : List ℕ) → 0 < from → IsNextChild parents parent from place → IsChain next place row → AllPairs (λ a b. a < b) row
   chain_rises parent from place [] low is beyond = λ i j d before within. absurd (omega (arith, within))
   chain_rises parent from place (head ∷ row) low is chain =
@@ -245,6 +245,7 @@ module _ (parents first next : List ℕ) (are : AreChainsFrom parents first next
           )
         ]
 
+    -- rows that are the chains from each name's first child list the children of each name
     pub child_rows : AreChildRows parents rows
     child_rows =
         record {

@@ -20,7 +20,7 @@ use Rattle.label_graph.proofs.NamePlaces.{one_place}
 use Rattle.label_graph.proofs.Readings.{reads_below, reads_then, reads_itself, owner_reads}
 use Rattle.label_graph.proofs.TargetLinks.{place_among, among_place}
 
--- labels below names that are one are one
+-- names that are equal have the same last label
 pub same_last : (a b : Labels) (x y : List ℕ) → a ++ x ∷ [] ≡ b ++ y ∷ [] → x ≡ y
 same_last a b x y e =
     let sizes : length a ≡ length b = omega (arith, ap length e, length-append a (x ∷ []), length-append b (y ∷ [])) in
@@ -29,7 +29,7 @@ same_last a b x y e =
 
 -- ---- links in lists
 
--- what is known of the targets in a row
+-- a link from a front to each base name that is known of one of the targets in a row is among those made of the row
 pub read_from_has : (front : ℕ) (bases : List (List ℕ)) (targets : List ℕ) (target base : ℕ) → Contains targets target → RowHas bases target base
     → Contains (read_from front bases targets) (link front base)
 read_from_has front bases targets target base among has =
@@ -44,7 +44,7 @@ from_read_from front bases targets one has =
     let (base, row, is) = from_map (λ (b : ℕ). link front b) (get_or bases target []) one inside in
     (target, base, (among, row, is))
 
--- the fronts that are known to read on to owners in a row
+-- a link from each front that is known to read on to one of the owners in a row is among those made of the row
 pub read_by_has : (base : ℕ) (fronts : List (List ℕ)) (owners : List ℕ) (owner front : ℕ) → Contains owners owner → RowHas fronts owner front
     → Contains (read_by base fronts owners) (link front base)
 read_by_has base fronts owners owner front among has =
@@ -63,7 +63,7 @@ module _ (targets : Targets) (are : AreTargets targets) where
   abbrev redirections : List Redirection
   redirections = (ground_in targets).redirections
 
-  -- a link that goes on from a true one is true
+  -- a link that goes on from a true link by a label is true
   pub next_true : (one next : Link) → IsTrueLink targets one → IsNextLink targets one next → IsTrueLink targets next
   next_true one next is goes =
       record {
@@ -75,7 +75,7 @@ module _ (targets : Targets) (are : AreTargets targets) where
             (reads_below redirections (name_at targets.fronts one.front) (name_at targets.names one.base) (goes.label ∷ []) is.reads));
       }
 
-  -- so is one by a target
+  -- a link that a true link and a redirection with a known target make is true
   pub joined_true : (front owner target base : ℕ) → IsTrueLink targets (link front owner) → Contains targets.links.list (link target owner)
       → IsTrueLink targets (link target base) → IsTrueLink targets (link front base)
   joined_true front owner target base is among reads =
@@ -89,7 +89,7 @@ module _ (targets : Targets) (are : AreTargets targets) where
             (map_has (linked targets.names targets.fronts) targets.links.list (link target owner) among) reads.reads);
       }
 
-  -- the fronts in a row have places
+  -- the fronts in a row of a base name have places
   pub targets_within : (base : ℕ) → All (λ front. front < length targets.fronts) (get_or targets.links.fronts base [])
   targets_within base =
       all_from_contains (λ (front : ℕ). front < length targets.fronts) (get_or targets.links.fronts base []) (λ front has.
@@ -97,7 +97,7 @@ module _ (targets : Targets) (are : AreTargets targets) where
       subst (λ (n : ℕ). front < n) are.fronts_len
       (All-contains (λ (l : Link). (l.front < length targets.links.bases) × (l.base < length targets.links.fronts)) targets.links.list (link front base) are.kept.within given).0)
 
-  -- and so have the base names
+  -- the base names in a row of a front have places
   pub owners_within : (front : ℕ) → All (λ base. base < length targets.names) (get_or targets.links.bases front [])
   owners_within front =
       all_from_contains (λ (base : ℕ). base < length targets.names) (get_or targets.links.bases front []) (λ base has.
@@ -105,7 +105,7 @@ module _ (targets : Targets) (are : AreTargets targets) where
       subst (λ (n : ℕ). base < n) are.names_len
       (All-contains (λ (l : Link). (l.front < length targets.links.bases) × (l.base < length targets.links.fronts)) targets.links.list (link front base) are.kept.within given).1)
 
-  -- what follows from a link, put to the others
+  -- what follows from a link is put to the others: the links stay kept and true
   pub followed : (before next reads is_read after : List Link) (bases fronts : List (List ℕ)) (one : Link) → AreKept before bases fronts
       → All (IsTrueLink targets) before → Contains before one
       → ((other : Link) → Contains next other ↔ IsNextLink targets one other)
@@ -165,7 +165,7 @@ module _ (targets : Targets) (are : AreTargets targets) where
 
   -- ---- links looked at one after another
 
-  -- nothing was looked at
+  -- before the first link is looked at, the root's link is all that was found
   pub found_none : (root : Link) (list : List Link) → AreAdded [] (root ∷ []) list → root.front < length targets.fronts → root.base < length targets.names
       → name_at targets.fronts root.front ≡ [] → name_at targets.names root.base ≡ [] → AreFound targets list []
   found_none root list added front base front_is base_is =
@@ -194,7 +194,7 @@ module _ (targets : Targets) (are : AreTargets targets) where
             reads = subst (ReadsOnTo redirections (name_at targets.fronts root.front)) (front_is ∙ sym base_is) (reads_itself redirections (name_at targets.fronts root.front));
           }
 
-  -- one link more was looked at
+  -- what follows from one link more was found once it was looked at
   pub found_more : (list looked_at after : List Link) (one : Link) → ((x : Link) → Contains looked_at x → Contains list x) → Contains list one
       → AreFound targets list looked_at → IsFollowed targets list one after → AreFound targets after (looked_at ++ one ∷ [])
   found_more list looked_at after one within known found follows =
@@ -294,7 +294,7 @@ module _ (targets : Targets) (are : AreTargets targets) where
         subst (Contains targets.fronts) (ap (λ (r : Redirection). r.target) is)
         (among_place targets.fronts tie.front (subst (λ (n : ℕ). tie.front < n) are.fronts_len within.0))
 
-    -- so where all links were looked at the rows have what each front reads on to
+    -- if all links were looked at, the rows have what each front reads on to
     pub all_found : length bases ≡ length targets.fronts → length fronts ≡ length targets.names → AreReads targets bases
     unfolding K
     all_found sizes names_sizes =
@@ -334,7 +334,7 @@ module _ (targets : Targets) (list : List Link) (bases fronts : List (List ℕ))
         → All (λ l. (l.front < length bases) × (l.base < length fronts)) next
     next_fits one next nexts = all_from_contains Fits next (λ other has. let goes = (nexts other).0 has in fits other.front other.base goes.front goes.base)
 
-    -- those of what is known of the targets do
+    -- the links made of what is known of targets fit the rows
     pub reads_fit : (one : Link) (row : List ℕ) → one.front < length targets.fronts
         → All (λ l. (l.front < length bases) × (l.base < length fronts)) (read_from one.front bases row)
     reads_fit one row front =
@@ -342,7 +342,7 @@ module _ (targets : Targets) (list : List Link) (bases fronts : List (List ℕ))
         let (target, base, (among, known, is)) = from_read_from one.front bases row other has in
         subst Fits is (fits one.front base front (All-contains (IsTrueLink targets) list (link target base) each_true ((kept.by_front target base).0 known)).base))
 
-    -- and those by the fronts that read on to the owners
+    -- the links made by the fronts that read on to the owners fit the rows
     pub is_read_fits : (one : Link) (row : List ℕ) → one.base < length targets.names
         → All (λ l. (l.front < length bases) × (l.base < length fronts)) (read_by one.base fronts row)
     is_read_fits one row base =
@@ -357,7 +357,7 @@ got_within list k one is =
     let same : get_or list k one ≡ one = get_or_from_slice_get list k one one is in
     (below, subst (Contains list) same (Contains-get_or list k one below), take_more list k one below ∙ ap (λ (l : Link). take k list ++ l ∷ []) same)
 
--- none is got past the end
+-- if no link is got at a place, all links are before it
 pub none_got : (list : List Link) (k : ℕ) → slice_get list k ≡ None → take k list ≡ list
 none_got list k none =
     elim (cases_lt k (length list)) [
@@ -375,7 +375,7 @@ taken_more list after new k one is more =
     let got = got_within list k one is in
     ap (take (k + 1)) more ∙ take-append-le (k + 1) list new (omega (arith, got.0)) ∙ got.2
 
--- those looked at are among all
+-- the links looked at are among all links
 pub taken_among : (list : List Link) (k : ℕ) (one : Link) → Contains (take k list) one → Contains list one
 taken_among list k one has =
     subst (λ (l : List Link). Contains l one) (take-append-drop k list) (Contains-append_left (take k list) (drop k list) one has)

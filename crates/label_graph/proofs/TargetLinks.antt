@@ -86,7 +86,7 @@ module _ (names : List Labels) (dnames : List Pair) (closed : IsClosed (ground_w
     (has_targets : (pair : Pair) → Contains dnames pair → Contains fronts pair.to)
     (same_links : (one : Link) → Contains links.list one ↔ ((pair : Pair) × Contains dnames pair × IsLinkOf base fronts pair one))
   where
-    -- the links stand for the pairs
+    -- the ground of the links is that of the names and the pairs
     pub same_ground : AreSame (ground_in (record { names = base; fronts = fronts; links = links })) (ground_with names dnames)
     same_ground = record { names = same_names; redirections = λ r. (there r, back r) } where
       there : (r : Redirection) → Contains (map (linked base fronts) links.list) r → Contains (map redirection dnames) r
@@ -116,7 +116,7 @@ module _ (names : List Labels) (dnames : List Pair) (closed : IsClosed (ground_w
               ap (λ (n : Labels). record { owner = n; target = name_at fronts target }) from
               ∙ ap (λ (n : Labels). record { owner = pair.from; target = n }) to
 
-    -- so their ground is closed
+    -- the ground of the links is closed
     pub closed_ground : HavePrefixes base → IsClosed (ground_in (record { names = base; fronts = fronts; links = links }))
     closed_ground have =
         record {

@@ -8,12 +8,13 @@ abbrev pub rows_from : ℕ → List ℕ → List ℕ → List (List ℕ)
 rows_from start [] all = []
 rows_from start (end ∷ ends) all = slice_range all start end ∷ rows_from end ends all
 
--- the ends don't fall, from a start on, and the last is so
+-- the ends never fall from the start on, and the last of them, or the start if there is none, is the given one
 abbrev pub RiseTo : ℕ → ℕ → List ℕ → Type 0
 RiseTo last start [] = start ≡ last
 RiseTo last start (end ∷ ends) = (start ≤ end) × RiseTo last end ends
 
--- of the places from one on the found one is the parent's first child; where there is none, it is the number of all places
+-- the found place is the first, from a place on, whose parent is the given one; if there is none, it is the number of
+-- all places
 pub record IsNextChild (parents : List ℕ) (parent from found : ℕ) : Type 0 where
   pub behind : from ≤ found
   pub within : found ≤ length parents
@@ -28,7 +29,7 @@ pub record AreChainsFrom (parents first next : List ℕ) (left : ℕ) : Type 0 w
   pub nexts : (place : ℕ) → left ≤ place → 0 < place → place < length parents
       → IsNextChild parents (slice_index parents place) (place + 1) (slice_index next place)
 
--- the row has the place and those to which one comes from there by the next ones
+-- the row begins at the place and goes on by the next places to the end
 abbrev pub IsChain : List ℕ → ℕ → List ℕ → Type 0
 IsChain next place [] = length next ≤ place
 IsChain next place (first ∷ row) = (place ≡ first) × (first < length next) × IsChain next (slice_index next first) row

@@ -13,7 +13,7 @@ pub record IsGraph (targets : Targets) (reads : List (List ℕ)) : Type 0 where
   pub are : AreTargets targets
   pub are_reads : AreReads targets reads
 
--- some item of the list is so
+-- some item of the list has the property
 abbrev pub SomeItem : {X : Type 0} → (X → Type 0) → List X → Type 0
 SomeItem {X} P xs = (x : X) × Contains xs x × P x
 

@@ -68,7 +68,7 @@ before_before true octets more _ = refl
 over : (w more : List ℕ) → MOST < length w → nat_lt 131072 (length (w ++ more)) ≡ true
 over w more h = lt-ltb 131072 (length (w ++ more)) (omega (arith, length-append w more))
 
--- a token that is too long, whatever comes behind
+-- a token that is too long is a fault, whatever comes behind it
 pub too_long : (place : EntrySoFar) (quoted : Bool) (w : List ℕ) (rest : List Piece) → MOST < length w → contents_from place (before quoted w rest) ≡ fails place.line TokenTooLong
 too_long place false w (Written false more ∷ rest) h = rw (over w more h) refl
 too_long place true w (Written true more ∷ rest) h = rw (over w more h) refl

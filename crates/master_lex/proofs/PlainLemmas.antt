@@ -86,7 +86,7 @@ passed_between : (s : LexState) (c : ℕ) → s.position.mode ≡ Between → pa
 unfolding passed
 passed_between s c m = ap (λ mode. passed_by mode s c) m
 
--- an entry that begins without a space or a tab
+-- the state in which an entry begins without a space or a tab
 abbrev pub without_blank : LexState → LexState
 without_blank s = record s { position = record s.position { blank_start = false } }
 
@@ -169,7 +169,7 @@ unfolding passed
 run_faulty fault s [] = refl
 run_faulty fault s (c ∷ cs) = run_faulty fault s cs
 
--- all behind a fault
+-- behind a fault all octets are passed over
 pub faulty_first : (s : LexState) (octets : List ℕ) (fault : LexFault) → s.position.mode ≡ Faulty fault → PassedFirst s s octets (length octets)
 faulty_first s octets fault m =
     let same = ap (with_mode s) m in

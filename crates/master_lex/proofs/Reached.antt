@@ -8,7 +8,7 @@ use Rattle.master_lex.specs.Plain.{PassedFirst}
 use Rattle.master_lex.proofs.UndoLemmas.{MovesFar, moves_far, grew_none}
 use Rattle.master_lex.proofs.Running.{run-append}
 
--- one octet more was passed
+-- the octets in front with one more are passed over once it is
 pub octet_more : (s s' s'' : LexState) (octets : List ℕ) (n octet : ℕ) → n < length octets → octet ≡ get_or octets n 0 → PassedFirst s s' octets n → s'' ≡ passed s' octet
     → PassedFirst s s'' octets (n + 1)
 octet_more s s' s'' octets n octet h is r e = record {
@@ -17,7 +17,7 @@ octet_more s s' s'' octets n octet h is r e = record {
       ∙ sym (rw (add-one, take-suc octets n 0 h) (run-append s (take n octets) (get_or octets n 0 ∷ [])));
 }
 
--- octets more at once
+-- octets that are passed over in front, and then more, are passed over together
 pub first_more : (s s' s'' : LexState) (octets : List ℕ) (n m : ℕ) → PassedFirst s s' octets n → PassedFirst s' s'' (take (length octets - n) (drop n octets)) m → PassedFirst s s'' octets (n + m)
 first_more s s' s'' octets n m r p =
     let rest = take_all (length octets - n) (drop n octets) (omega (arith, length-drop n octets)) in

@@ -113,7 +113,7 @@ ended : (fault : Option LexFault) (said : LexFault) → fault ≡ None → fault
 ended None said h k = cc
 ended (Some fault) said h k = cc
 
--- where none is held, none is settled
+-- if a mode holds no fault, no fault is settled, however the text goes on
 pub not_settled : (m : Mode) (s : LexState) (fault : LexFault) → Fits m s → held_fault m ≡ None → ((more : List ℕ) → (ahead_by m s more).fault ≡ Some fault) → ⊥
 not_settled Start s fault fits none h = ended _ fault (closed (record (entry_so_far s) { blank_start = _ }) s.position.depth refl) (h (closing s.position.depth))
 not_settled Between s fault fits none h = ended _ fault (closed (entry_so_far s) s.position.depth refl) (h (closing s.position.depth))

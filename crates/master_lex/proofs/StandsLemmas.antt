@@ -19,7 +19,7 @@ use Rattle.master_lex.specs.Lexer.{Lexing, IsLexerOf, left, LastTaken}
 use Rattle.master_lex.proofs.Running.{run_ahead, end_ahead}
 use Rattle.master_lex.proofs.Settled.{held_fault, not_settled}
 
--- what is behind the front
+-- what is behind the front of two lists in a row is the second list
 pub drop_front : {A : Type 0} (xs ys : List A) → drop (length xs) (xs ++ ys) ≡ ys
 drop_front [] ys = refl
 drop_front (x ∷ xs) ys = drop_front xs ys
@@ -48,7 +48,7 @@ end_stands s n finished unended tidy text given h =
       };
     }
 
--- a lexer that was fed nothing
+-- a new lexer stands for the empty text, of which no entry was given
 pub new_stands : IsLexerOf (record { state = empty; fed = 0; finished = false }) [] []
 new_stands = record { fed = refl; agrees = λ more. refl }
 
@@ -95,7 +95,7 @@ ready_given s n false text given h = record {
 left_over : (given rest total : List Entry) → total ≡ given ++ rest → drop (length given) total ≡ rest
 left_over given rest total e = ap (drop (length given)) e ∙ drop_front given rest
 
--- the fault that is known of a text
+-- the fault that a lexer knows of its text so far
 abbrev pub known_fault : Lexing → Option LexFault
 known_fault lexer = if lexer.finished then last_fault lexer.state.position else held_fault lexer.state.position.mode
 

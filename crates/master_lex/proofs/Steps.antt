@@ -77,11 +77,11 @@ module _ (s : LexState) (quoted : Bool) where
     by true h = refl
     by false h = ap (behind s.ready) (long (ltb-false _ _ h))
 
-  -- a token that is whole
+  -- once a token is whole, what is ahead is read behind it
   pub ended_ahead : (rest : List Piece) → length s.raw ≤ MOST → contents_from (entry_so_far s) (Written quoted s.raw ∷ rest) ≡ contents_from (entry_so_far (token_ended s quoted)) rest
   ended_ahead rest h = rw (le-ltb 131072 (length s.raw) h) refl
 
--- a backslash that spells nothing
+-- a backslash that spells nothing is a fault, whatever comes behind it
 pub bad_ahead : (place : EntrySoFar) (quoted : Bool) (w : List ℕ) → length w < MOST → contents_from place (before quoted w (bad_escape quoted)) ≡ fails place.line BadEscape
 bad_ahead place false w h = rw (le-ltb 131072 (length (w ++ 92 ∷ [])) (omega (arith, h, length-append w (92 ∷ [])))) refl
 bad_ahead place true w h = rw (le-ltb 131072 (length (w ++ 92 ∷ [])) (omega (arith, h, length-append w (92 ∷ [])))) refl

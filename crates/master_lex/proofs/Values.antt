@@ -89,7 +89,7 @@ module _ (lexer : Lexing) (text : List ℕ) (given : List Entry) (ended : lexer.
             (all_given given (drop (length given) (text_entries text)) (text_entries text) split p.0, p.1 ∙ a.1.0)
       ]
 
--- one piece more
+-- the text of the next item stands behind those of the items before it, in front of what is left
 pub joined_step : {B : Type 0} (f : B → List ℕ) (xs : List B) (i : ℕ) (d : B) (so_far total : List ℕ) → i < length xs → so_far ++ flat_map f (drop i xs) ≡ total
     → so_far ++ f (get_or xs i d) ++ flat_map f (drop (i + 1) xs) ≡ total
 joined_step f xs i d so_far total l h =

@@ -45,6 +45,7 @@ impl Spares {
             return;
         }
         tokens.clear();
+        // A push without memory drops the vector: its room isn't left to others, and nothing else is lost.
         let _ = self.vectors.push(tokens);
     }
 }

@@ -47,7 +47,7 @@ use Rattle.master_read.specs.declared.words.TypeWord.TheVariants.{Known, Dropped
 abbrev pub IsTold : TextCause → Type 0
 IsTold cause = tells_of_text cause ≡ true
 
--- the cause of a step's fault, if it has one, does
+-- the cause of a step's fault, if it has one, says something of the text
 abbrev pub SaysTold : {T : Type 0} → Result T TextCause → Type 0
 SaysTold said = IfErr said IsTold
 

@@ -6,7 +6,7 @@ use Rattle.master_read.specs.Reader.{Held, IsReading, IsSettled, texts_give}
 use Rattle.master_read.specs.declared.fault.TextFault.{TextFault}
 use Rattle.master_read.specs.declared.records.ReadLimits.{ReadLimits}
 
--- so much of a piece was read in front of the rest
+-- so much of a piece was read, in front of the rest
 pub record HasReadPart (old new : Held) (piece rest : List ℕ) : Type 0 where
   pub front : List ℕ
   pub whole : front ++ rest ≡ piece
@@ -14,7 +14,7 @@ pub record HasReadPart (old new : Held) (piece rest : List ℕ) : Type 0 where
   pub same : new ≡ record old { lexer = new.lexer; file = new.file; records = new.records }
   pub fed : new.lexer.fed ≡ old.lexer.fed + length front
 
--- nothing was read
+-- before the first octet nothing of a piece was read
 pub none_read : (held : Held) (piece : List ℕ) → HasReadPart held held piece piece
 none_read held piece = record {
   front = [];
@@ -24,7 +24,7 @@ none_read held piece = record {
   fed = omega arith;
 }
 
--- the next part was read
+-- a piece of which a part was read has a longer part read once the next part was
 pub more_read : (old mid new : Held) (piece rest front after : List ℕ) → HasReadPart old mid piece rest → front ++ after ≡ rest
     → ((origin : Labels) (ended : List (List ℕ)) (text : List ℕ) → IsReading mid origin ended text → IsReading new origin ended (text ++ front))
     → new ≡ record mid { lexer = new.lexer; file = new.file; records = new.records } → new.lexer.fed ≡ mid.lexer.fed + length front → HasReadPart old new piece after

@@ -24,7 +24,7 @@ use Rattle.master_read.specs.declared.file.File.{File}
 use Rattle.master_read.specs.declared.records.ReadLimits.{ReadLimits}
 use Rattle.master_read.specs.declared.records.Records.{Records}
 
--- the first entry was read
+-- an entry that leaves records is read before the others
 pub first_read : (include : Include) (room file : ℕ) (entry : Entry) (entries : List Entry) (records more : Records) (texts : List (List ℕ))
     → effect_of room file records entry ≡ Ok (Leaves more)
     → with_entries include room file (entry ∷ entries) (record { records = records; texts = texts })
@@ -116,7 +116,7 @@ HasFault room file records entries fault =
     → IsFaultOf fault (with_entries include room file (entries ++ behind) (record { records = records; texts = texts }))
 
 module _ (limits : ReadLimits) (file : File) (around : List File) (origin : Labels) where
-  -- more was taken
+  -- entries that are taken of an open file are put behind those that wait to be read
   pub takes : (records : Records) (entries waiting : List Entry) (ended : List (List ℕ)) (taken more : List Entry) → waiting ≡ entries ++ more
       → Reads limits file around records entries origin ended taken → Reads limits file around records waiting origin ended (taken ++ more)
   takes records entries waiting ended taken more whole reads text others later all =
@@ -124,7 +124,7 @@ module _ (limits : ReadLimits) (file : File) (around : List File) (origin : Labe
       ∙ ap (λ (es : List Entry). as_zone_text (rest_of limits file es (text_fault text) (record { records = records; texts = later }) >>= rest_around limits around))
       (sym (append_assoc entries more others) ∙ ap (λ (w : List Entry). w ++ others) (sym whole))
 
-  -- more was read
+  -- entries of an open file that are read leave the others, with the records that they make
   pub reads_on : (records records' : Records) (entries entries' : List Entry) (ended : List (List ℕ)) (taken : List Entry) → ReadsOn limits.room file.number records entries records' entries'
       → Reads limits file around records entries origin ended taken → Reads limits file around records' entries' origin ended taken
   reads_on records records' entries entries' ended taken on reads text others later all =
@@ -133,7 +133,7 @@ module _ (limits : ReadLimits) (file : File) (around : List File) (origin : Labe
       (same_rest limits file (entries ++ others) (entries' ++ others) (text_fault text) (record { records = records; texts = later })
       (record { records = records'; texts = later }) (on (included limits file.levels) others later))
 
-  -- a fault was met: it is settled
+  -- a fault that the entries of an open file have is settled
   pub settles : (records : Records) (entries : List Entry) (ended : List (List ℕ)) (taken : List Entry) (lexer : Lexing) (text : List ℕ) (fault : TextFault)
       → HasFault limits.room file.number records entries fault → fault ≢ NoMemory → lexer.finished ≡ false → IsLexerOf lexer text taken
       → Reads limits file around records entries origin ended taken → IsSettled fault limits origin ended text
@@ -156,7 +156,7 @@ module _ (limits : ReadLimits) (file : File) (around : List File) (origin : Labe
       (later : List (List ℕ)) → texts_give limits origin (texts ++ later)
       ≡ as_zone_text (rest_of limits file entries fault (record { records = records; texts = later }) >>= rest_around limits around)
 
-  -- all was taken of the file that was open
+  -- if all was taken of the open file, the reading pauses at the entries that are left of it
   pub pauses : (records : Records) (entries waiting : List Entry) (ended : List (List ℕ)) (taken more : List Entry) (text : List ℕ) (fault : Option LexFault) → waiting ≡ entries ++ more
       → text_entries text ≡ taken ++ more → fault ≡ text_fault text → Reads limits file around records entries origin ended taken → Pauses records waiting fault (ended ++ text ∷ [])
   pauses records entries waiting ended taken more text fault whole all is reads later =
@@ -177,7 +177,7 @@ module _ (limits : ReadLimits) (file : File) (around : List File) (origin : Labe
       (ap (λ (es : List Entry). with_entries include limits.room file.number es (record { records = records; texts = later })) (sym (append-nil entries))
       ∙ e ∙ ap (λ (es : List Entry). with_entries include limits.room file.number es (record { records = records'; texts = later })) (append-nil entries')))
 
-  -- what the texts give by themselves
+  -- where a file pauses, the texts give what its entries and the files around it give
   pub now : (records : Records) (entries : List Entry) (fault : Option LexFault) (texts : List (List ℕ)) → Pauses records entries fault texts
       → texts_give limits origin texts ≡ as_zone_text (rest_of limits file entries fault (record { records = records; texts = [] }) >>= rest_around limits around)
   now records entries fault texts before = ap (texts_give limits origin) (sym (append-nil texts)) ∙ before []
@@ -193,19 +193,19 @@ module _ (limits : ReadLimits) (file : File) (around : List File) (origin : Labe
         ∙ unread_rest limits file entries end (record { records = records; texts = [] }) (Faulty fault) (rest_around limits around)
         (ap (λ (es : List Entry). with_entries (included limits file.levels) limits.room file.number es (record { records = records; texts = [] })) (sym (append-nil entries)) ∙ same)
 
-  -- no entry is left of the file
+  -- if no entry is left of a file and its spelling has a fault, the texts give that fault
   pub left_fault : (records : Records) (fault : LexFault) (texts : List (List ℕ)) → Pauses records [] (Some fault) texts
       → texts_give limits origin texts ≡ Err (Faulty (At file.number fault.line (Lex fault.kind)))
   unfolding with_rest with_entries
   left_fault records fault texts before = now records [] (Some fault) texts before
 
--- no file lies around it
+-- if no entry is left of a file and no file lies around it, the texts give what was read
 pub left_all : (limits : ReadLimits) (file : File) (origin : Labels) (records : Records) (texts : List (List ℕ)) → Pauses limits file [] origin records [] None texts
     → texts_give limits origin texts ≡ Ok (zone_text_of records)
 unfolding with_rest with_entries
 left_all limits file origin records texts before = now limits file [] origin records [] None texts before
 
--- the inmost of the files around
+-- the rest of files around others begins with that of the inmost one
 pub rest_inmost : (limits : ReadLimits) (files : List File) (file : File) (progress : Progress)
     → rest_around limits (files ++ file ∷ []) progress ≡ (rest_of limits file file.entries.items file.fault progress >>= rest_around limits files)
 rest_inmost limits [] file progress = sym (behind_ok (rest_of limits file file.entries.items file.fault progress))
@@ -213,7 +213,7 @@ rest_inmost limits (outer ∷ files) file progress =
     ap (λ (r : Result Progress Unread). r >>= rest_of limits outer outer.entries.items outer.fault) (rest_inmost limits files file progress)
     ∙ regroup (rest_of limits file file.entries.items file.fault progress) (rest_around limits files) (rest_of limits outer outer.entries.items outer.fault)
 
--- the file around it goes on
+-- if no entry is left of an included file, the file around it goes on
 pub left_file : (limits : ReadLimits) (file outer : File) (around files : List File) (origin : Labels) (records : Records) (texts : List (List ℕ)) → around ≡ files ++ outer ∷ []
     → Pauses limits file around origin records [] None texts
     → Pauses limits outer files origin (record records { context = back_at file.before records.context }) outer.entries.items outer.fault texts
@@ -270,7 +270,7 @@ too_many limits (suc levels) file line name origin progress deep less = by (nat_
   by true e = refl
   by false e = absurd (grind (arith, nat_tests))
 
--- what an `$INCLUDE` of the inmost file makes
+-- an `$INCLUDE` in a file below which none may be included has the fault of its depth
 pub made_too_deep : (held : Held) (entry : Entry) (texts : List (List ℕ)) (name : List ℕ) (origin : Labels) → effect_of held.limits.room held.file.number held.records entry ≡ Ok (Opens name origin)
     → held.file.levels ≡ 0 → IsFaultOf (At held.file.number entry.line IncludeDepth) (entry_makes held entry texts)
 made_too_deep held entry texts name origin e none =
@@ -296,7 +296,7 @@ module _ (held new : Held) (entry : Entry) (name : List ℕ) (below : Labels) (m
       ∙ ap (λ (levels : ℕ). included held.limits levels held.file.number entry.line name below progress) deep
       ∙ opens held.limits new.file.levels held.limits.room held.file.number entry.line name below progress may.includes
 
-  -- the texts so far ask for it
+  -- if an entry asks for a file that may be included, the texts so far ask for that file
   pub asks : (origin : Labels) (texts : List (List ℕ)) → IsPausing held origin texts (entry ∷ held.file.entries.items) → texts_give held.limits origin texts ≡ Err (Asks name)
   asks origin texts before =
       now held.limits held.file held.around origin held.records (entry ∷ held.file.entries.items) held.file.fault texts before

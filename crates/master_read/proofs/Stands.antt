@@ -10,7 +10,7 @@ use Rattle.master_read.specs.declared.asked.AfterFile.TheVariants.{Include, Done
 use Rattle.master_read.specs.declared.fault.TextFault.{TextFault}
 use Rattle.master_read.specs.declared.fault.TextFault.TheVariants.{NoMemory}
 
--- more was fed and read
+-- a reader that was fed a piece, and read of it, stands for the texts with the piece
 pub stands_on : (old new : Held) (piece : List ℕ) → old.fault ≡ None → new.fault ≡ None → new.limits ≡ old.limits → new.fed ≡ old.fed + length piece
     → ((origin : Labels) (ended : List (List ℕ)) (text : List ℕ) → IsReading old origin ended text → IsReading new origin ended (text ++ piece))
     → (origin : Labels) (room includes : ℕ) (ended : List (List ℕ)) (text : List ℕ) → IsReaderOf old origin room includes ended text → IsReaderOf new origin room includes ended (text ++ piece)
@@ -20,7 +20,7 @@ stands_on old new piece none none' limits fed read origin room includes ended te
   agrees = rw none' (read origin ended text (rw none at h.agrees));
 }
 
--- a fault was met
+-- a reader that was fed a piece with a fault stands for the texts with the piece, by that fault
 pub meets : (old new : Held) (piece : List ℕ) (fault : TextFault) → old.fault ≡ None → new.fault ≡ Some fault → new.limits ≡ old.limits → new.fed ≡ old.fed + length piece
     → ((origin : Labels) (ended : List (List ℕ)) (text : List ℕ) → IsReading old origin ended text → fault ≢ NoMemory → IsSettled fault old.limits origin ended (text ++ piece)) → fault ≢ NoMemory
     → (origin : Labels) (room includes : ℕ) (ended : List (List ℕ)) (text : List ℕ) → IsReaderOf old origin room includes ended text → IsReaderOf new origin room includes ended (text ++ piece)
@@ -50,7 +50,7 @@ pub settled_asks : (held : Held) (fault : TextFault) (origin : Labels) (room inc
 settled_asks held fault origin room includes ended text some h =
     sym (ap asked_by (by_limits held room includes origin (ended ++ text ∷ []) h.limits ∙ (settled_now held fault origin room includes ended text some h).1))
 
--- a reader with a fault that is settled ends with it
+-- a reader with a settled fault ends with it
 pub settled_ends : (held new : Held) (fault : TextFault) (origin : Labels) (room includes : ℕ) (ended : List (List ℕ)) (text : List ℕ) → held.fault ≡ Some fault → new ≡ record held { ended = true }
     → IsReaderOf held origin room includes ended text → GoesOn Done new origin room includes (ended ++ text ∷ [])
 settled_ends held new fault origin room includes ended text some is h =
@@ -62,7 +62,7 @@ module _ (old new : Held) (origin : Labels) (room includes : ℕ) (ended : List 
   given : zone_text origin room includes (ended ++ text ∷ []) ≡ texts_give new.limits origin (ended ++ text ∷ [])
   given = rw limits (by_limits old room includes origin (ended ++ text ∷ []) h.limits)
 
-  -- what was fed and read so far
+  -- the reader has read what was fed, but for what it holds
   pub reading : IsReading old origin ended text
   reading = rw none at h.agrees
 
@@ -75,7 +75,7 @@ module _ (old new : Held) (origin : Labels) (room includes : ℕ) (ended : List 
       → GoesOn (Include file) new origin room includes (ended ++ text ∷ [])
   file_stands file unended fed fault comes = (unended, fed, record { limits = rw limits h.limits; fed_is = fed; agrees = rw (fault, none) comes.1 })
 
-  -- or they have ended
+  -- if the reading has come to no more file, the texts have ended
   pub all_asked : HasComeTo None new origin (ended ++ text ∷ []) → Done ≡ asked_by (zone_text origin room includes (ended ++ text ∷ []))
   all_asked comes = sym (ap asked_by (given ∙ comes))
 

@@ -20,12 +20,12 @@ there_is : (o : Option Labels) (cause : TextCause) (owner : Labels) → ok_or o 
 there_is None cause owner e = absurd cc
 there_is (Some x) cause owner e = cc
 
--- where the line begins blank, the owner is the last one
+-- the owner of an entry whose line begins blank is the last owner
 pub last_owner_is : (context : Context) (entry : Entry) (owner : Labels) → owner_of context entry ≡ Ok owner → entry.blank_start ≡ true → context.owner ≡ Some owner
 unfolding owner_of
 last_owner_is context entry owner e blank = there_is context.owner NoOwner owner (rw blank at e)
 
--- octets that are a text, and octets that are none
+-- octets that are UTF-8 pass the test of UTF-8
 pub utf8 : (octets : List ℕ) → IsUtf8 octets → is_utf8 octets ≡ true
 utf8 = is_utf8-from_IsUtf8
 

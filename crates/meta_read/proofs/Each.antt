@@ -3,6 +3,6 @@ use Rattle.std.proofs.Common.{List, ◌++◌, Result, Ok}
 use Rattle.dns_data.specs.Answers.{◌>>=◌}
 use Rattle.meta_read.specs.declared.fault.MetaFault.{MetaFault}
 
--- what is done, and then what the rest gives
+-- the values so far, and then those of the rest, or the rest's fault
 abbrev pub continued : {B : Type 0} → List B → Result (List B) MetaFault → Result (List B) MetaFault
 continued done rest = rest >>= (λ more. Ok (done ++ more))

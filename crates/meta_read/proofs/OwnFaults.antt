@@ -76,7 +76,7 @@ value_own value =
     if_err_then IsOwn (tops_of value) _ (tops_own value)
     (λ tops. if_err_then IsOwn (rows_of value) _ (rows_own value) (λ rows. hosted_own (first_unhosted tops rows) (record { tops = tops; rows = rows })))
 
--- the fault of metadata says something of them
+-- the fault of a metadata file says something of it
 pub metadata_own : (octets : List ℕ) → IfErr (metadata_of octets) IsOwn
 metadata_own octets =
     if_err_then IsOwn (ok_or (value_of octets) NotJson) _ (if_err_or IsOwn (value_of octets) NotJson tt) value_own

@@ -16,7 +16,7 @@ module _ {A : Type 0} (name_of : A → Labels) (items : List A) where
   abbrev pub HasFirst : ℕ → tree.BTreeSet Labels → Type 0
   HasFirst i set = (name : Labels) → tree.contains name_cmp set name ≡ list_any (λ item. name_eq name (name_of item)) (take i items)
 
-  -- a set to which the name of the next item was added
+  -- a set of the names of the first items has those of one item more, once its name was added
   pub has-more : (i : ℕ) (old new : tree.BTreeSet Labels) (item : A) → i < length items → item ≡ get_or items i item → tree.Updates name_cmp old new (name_of item) true → HasFirst i old → HasFirst (i + 1) new
   has-more i old new item below is updates has name =
       updates.0 name
@@ -34,14 +34,14 @@ module _ (names : List Labels) (i : ℕ) where
   before : (name : Labels) → i < length names → name ≡ get_or names i name → take (i + 1) names ≡ take i names ++ name ∷ []
   before name below is = take_more names i name below ∙ (λ j. take i names ++ sym is j ∷ [])
 
-  -- a name that came before
+  -- a name that came before isn't one of the distinct names from its place on
   pub once-old : (name : Labels) → i < length names → name ≡ get_or names i name → list_any (name_eq name) (take i names) ≡ true → distinct_behind name_eq (take i names) (drop i names) ≡ distinct_behind name_eq (take (i + 1) names) (drop (i + 1) names)
   once-old name below is old =
       ap (distinct_behind name_eq (take i names)) (here name below is)
       ∙ (ap (λ b. cond b (distinct_behind name_eq (take i names ++ name ∷ []) (drop (i + 1) names)) (name ∷ distinct_behind name_eq (take i names ++ name ∷ []) (drop (i + 1) names))) old
       ∙ ap (λ front. distinct_behind name_eq front (drop (i + 1) names)) (sym (before name below is)))
 
-  -- a name that didn't
+  -- a name that didn't come before is the next of the distinct names
   pub once-new : (name : Labels) → i < length names → name ≡ get_or names i name → list_any (name_eq name) (take i names) ≡ false → distinct_behind name_eq (take i names) (drop i names) ≡ name ∷ distinct_behind name_eq (take (i + 1) names) (drop (i + 1) names)
   once-new name below is new =
       ap (distinct_behind name_eq (take i names)) (here name below is)

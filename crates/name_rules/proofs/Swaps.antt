@@ -4,7 +4,7 @@ use Rattle.std.proofs.lemmas.List.{drop-append-le}
 use Rattle.dns_data.specs.Name.{Labels, is_prefix, swap}
 use Rattle.dns_data.proofs.NameFronts.{is_prefix_tells}
 
--- what stands below the known name stays below what is made of it
+-- labels below the known name stay below the name that a redirection makes of it
 pub swap_below : (known owner target below : Labels) → is_prefix owner known ≡ true → swap (known ++ below) owner target ≡ swap known owner target ++ below
 swap_below known owner target below inside =
     let begins = is_prefix_tells owner known inside in

@@ -46,12 +46,12 @@ by_start on number state = map (λ later. (number ∷ later.0, later.1)) (on sta
 abbrev pub all_along : ℕ → Setting → RrType → Labels → List Numbered
 all_along depth setting rtype query = in_turn (by_start (all_from depth setting rtype)) 0 (start setting.config query)
 
--- the same without numbers: the walks that a branch gives
+-- the walks that a branch of a state gives, without their numbers
 abbrev pub walks_by : (State → List Walk) → State → Branch → List Walk
 walks_by on state (Go hop to) = map (led_on state hop) (on to)
 walks_by on state (End hop leaf) = record { states = state ∷ []; hops = option_to_list hop; leaf = leaf } ∷ []
 
--- and the walks from a state
+-- the walks from a state of no more states than so many, without their numbers
 abbrev pub walks_within : ℕ → Setting → RrType → State → List Walk
 walks_within zero setting rtype state = []
 walks_within (suc depth) setting rtype state = flat_map (walks_by (walks_within depth setting rtype) state) (next setting rtype state)
@@ -100,7 +100,7 @@ one_of P (first ∷ xs) zero x all is = let same : first ≡ x = cc in subst P s
 one_of P (first ∷ xs) (suc i) x all is = one_of P xs i x all.1 is
 
 module _ (setting : Setting) (rtype : RrType) where
-  -- each is the walk by its numbers
+  -- each listed walk from a state is the walk from it by its numbers
   pub all_are : (depth : ℕ) (state : State) (x : Numbered) → Contains (all_from depth setting rtype state) x → walk_from setting rtype x.0 state ≡ Some x.1
   all_are zero state x has = absurd (none_in_nil x has)
   all_are (suc depth) state x has =
@@ -122,7 +122,7 @@ module _ (setting : Setting) (rtype : RrType) where
             | inr none ↦ absurd (none_in_nil x none)
           ]
 
-  -- where no walk is longer, none is missing
+  -- if no walk from a state has more states than so many, each walk from it is listed with its numbers
   pub none_missing : (depth : ℕ) (state : State) (numbers : List ℕ) (walk : Walk) → Settled depth setting rtype state
       → walk_from setting rtype numbers state ≡ Some walk → Contains (all_from depth setting rtype state) (numbers, walk)
   none_missing zero state numbers walk settled is = absurd settled
@@ -165,7 +165,7 @@ module _ (setting : Setting) (rtype : RrType) where
 
   -- ---- the walks of a query
 
-  -- each is the walk of the query by its numbers
+  -- each listed walk of a query is the walk of the query by its numbers
   pub all_along_are : (depth : ℕ) (query : Labels) (x : Numbered) → Contains (all_along depth setting rtype query) x → walk_along setting query rtype x.0 ≡ Some x.1
   all_along_are depth query x has =
       let found = from_turn (by_start (all_from depth setting rtype)) 0 (start setting.config query) x has in
@@ -174,7 +174,7 @@ module _ (setting : Setting) (rtype : RrType) where
       subst (λ (y : Numbered). walk_along setting query rtype y.0 ≡ Some y.1) later.2
       (ap (option_and_then (walk_from setting rtype later.0.0)) found.2 ∙ all_are depth found.1 later.0 later.1)
 
-  -- and none is missing
+  -- if no walk of a query has more states than so many, each of its walks is listed with its numbers
   pub none_missing_along : (depth : ℕ) (query : Labels) (numbers : List ℕ) (walk : Walk) → AllByRecursion (Settled depth setting rtype) (start setting.config query)
       → walk_along setting query rtype numbers ≡ Some walk → Contains (all_along depth setting rtype query) (numbers, walk)
   none_missing_along depth query [] walk settled is = cc
@@ -190,7 +190,7 @@ module _ (setting : Setting) (rtype : RrType) where
 
 -- ---- without numbers
 
--- the walk of a numbered one
+-- a walk without its numbers
 abbrev pub walk_of : Numbered → Walk
 walk_of x = x.1
 
@@ -209,7 +209,7 @@ module _ (on : State → List Numbered) (on' : State → List Walk) (same : (sta
       ∙ ap (λ (xs : List Walk). xs ++ map walk_of (in_turn (by_branch on state) (suc first) branches)) (branch_gives first branch)
       ∙ ap (λ (xs : List Walk). walks_by on' state branch ++ xs) (branches_give (suc first) branches)
 
--- the walks are the same
+-- the walks from a state listed with numbers are those listed without
 pub same_walks : (setting : Setting) (rtype : RrType) (depth : ℕ) (state : State) → map walk_of (all_from depth setting rtype state) ≡ walks_within depth setting rtype state
 same_walks setting rtype zero state = refl
 same_walks setting rtype (suc depth) state =
@@ -224,7 +224,7 @@ starts_give setting rtype depth first (state ∷ states) =
     (map-map walk_of (λ (later : Numbered). (first ∷ later.0, later.1)) (all_from depth setting rtype state) ∙ same_walks setting rtype depth state)
     ∙ ap (λ (xs : List Walk). walks_within depth setting rtype state ++ xs) (starts_give setting rtype depth (suc first) states)
 
--- and so are those of a query
+-- the walks of a query listed with numbers are those listed without
 pub same_walks_along : (setting : Setting) (rtype : RrType) (depth : ℕ) (query : Labels)
     → map walk_of (all_along depth setting rtype query) ≡ flat_map (walks_within depth setting rtype) (start setting.config query)
 same_walks_along setting rtype depth query = starts_give setting rtype depth 0 (start setting.config query)
@@ -307,7 +307,7 @@ pairs_rise [] rise = λ i j d before within. absurd (omega arith)
 pairs_rise (x ∷ xs) rise =
     AllPairs-cons (λ (a b : Numbered). path_cmp a.0 b.0 ≡ Less) x xs (all_from_contains (λ (y : Numbered). path_cmp x.0 y.0 ≡ Less) xs rise.0) (pairs_rise xs rise.1)
 
--- so the walks are listed in the order of their numbers
+-- the walks of a query are listed in the order of their numbers
 pub along_ordered : (setting : Setting) (rtype : RrType) (depth : ℕ) (query : Labels)
     → AllPairs (λ (a b : Numbered). path_cmp a.0 b.0 ≡ Less) (all_along depth setting rtype query)
 along_ordered setting rtype depth query = pairs_rise (all_along depth setting rtype query) (along_rises setting rtype depth query)

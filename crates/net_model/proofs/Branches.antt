@@ -96,6 +96,6 @@ module _ (setting : Setting) (rtype : RrType) (state : State) (P : Branch → Ty
   each_in None nearest = (ends Outside, tt)
   each_in (Some zone) nearest = each_after zone (found zone state.name rtype) (record { nearest = nearest; is = refl })
 
-  -- what ends, referrals and rewrites are, each branch of the state is
+  -- what holds of each end, referral and rewrite of a state holds of each of its branches
   pub each_branch : AllByRecursion P (next setting rtype state)
   each_branch = each_in (nearest_of setting.config state.server state.name) refl

@@ -6,7 +6,7 @@ use Rattle.dns_data.proofs.DifferentItems.{fits_among}
 use Rattle.dns_data.proofs.Membership.{all_images, pairs_of_images}
 use Rattle.net_model.specs.Tree.{HasMoreThan}
 
--- there aren't more than a list has that has all of them
+-- if a list of at most so many items has all items with a property, no more than so many have it
 pub no_more_than : {X : Type 0} (P : X → Type 0) (most : ℕ) (all : List X) → length all ≤ most
     → ((x : X) → P x → Contains all x) → HasMoreThan P most → ⊥
 no_more_than P most all few has more =
@@ -16,7 +16,7 @@ no_more_than P most all few has more =
     let many : most < length more.items = more.more in
     omega arith
 
--- a map that keeps different ones apart carries them over
+-- if more than so many items have a property, so many of their images have another, by a map that keeps them apart
 pub more_images : {X Y : Type 0} (P : X → Type 0) (Q : Y → Type 0) (most : ℕ) (f : X → Y) → ((x : X) → P x → Q (f x))
     → ((a b : X) → P a → P b → f a ≡ f b → a ≡ b) → HasMoreThan P most → HasMoreThan Q most
 more_images P Q most f kept apart more =

@@ -9,7 +9,7 @@ use Rattle.dns_data.proofs.Searches.{from_any, any_has}
 use Rattle.net_model.specs.declared.config.Zone.{Zone}
 use Rattle.net_model.specs.Zone.{exists_in}
 
--- a prefix of a prefix
+-- a name that begins a prefix of a name begins the name
 pub prefix_of_prefix : (above name whole : Labels) → Begins above name → Begins name whole → Begins above whole
 prefix_of_prefix above name whole (below, e) (rest, f) =
     (below ++ rest, sym (append_assoc above below rest) ∙ ap (λ (x : Labels). x ++ rest) e ∙ f)
@@ -45,7 +45,7 @@ prefix_exists zone above below inside exists =
           (prefix_of_prefix above (above ++ below) found.0.owner (below, refl) (is_prefix_tells (above ++ below) found.0.owner found.2))))
     ]
 
--- a shorter name passes a test of being so
+-- a test of three parts, of which the second holds, is the test of the other two
 pub shorter_passes : (a b c : Bool) → b ≡ true → (a && b && c) ≡ (a && c)
 shorter_passes true b c e = ap (λ x. x && c) e
 shorter_passes false b c e = refl

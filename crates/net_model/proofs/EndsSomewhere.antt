@@ -63,7 +63,7 @@ referral_found zone name rtype cut names e =
 abbrev pub origin_labels : Config → State → ℕ
 origin_labels config state = option_map_or (λ zone. length zone.origin) (nearest_of config state.server state.name) 0
 
--- at most as many as the name
+-- the origin of the zone in which a state's name is looked up has no more labels than the name
 pub origin_within : (config : Config) (state : State) → origin_labels config state ≤ length state.name
 origin_within config state = by (nearest_of config state.server state.name) refl where
   by : (zone : Option Zone) → nearest_of config state.server state.name ≡ zone → option_map_or (λ zone. length zone.origin) zone 0 ≤ length state.name
@@ -91,7 +91,8 @@ referral_down setting rtype state zone below cut ns names looks delegated =
     ap (λ (z : Option Zone). option_map_or (λ zone. length zone.origin) z 0) delegated.nearest in
     (refl, refl, omega (arith, longer, here, there, ap length begins.1, length-append cut begins.0))
 
--- so each branch of a state goes down
+-- each branch of a state goes down, if it goes on: a referral keeps the name and leads to a zone with a longer origin,
+-- a rewrite uses one rewrite more
 pub goes_down : (setting : Setting) (rtype : RrType) (state : State) → AllByRecursion (GoesDown setting state) (next setting rtype state)
 goes_down setting rtype state =
     each_branch setting rtype state (GoesDown setting state) (λ leaf. tt) (λ cut leaf. tt)

@@ -53,7 +53,7 @@ number_tells Srv = refl
 number_tells Dname = refl
 number_tells Caa = refl
 
--- types with one number are one
+-- types with the same number are equal
 pub one_type : (a b : RrType) → number_of a ≡ number_of b → a ≡ b
 one_type a b e = same_Some a b (sym (number_tells a) ∙ ap type_with e ∙ number_tells b)
 
@@ -82,7 +82,7 @@ classes_total =
     same_order (then_cmp (on class_name name_cmp) (on class_side nat_cmp)) class_cmp classes_by_parts
     (then_total (on_total class_name names_total) (on_total class_side nat_cmp_total))
 
--- classes that tie are one
+-- classes of which neither comes before the other are equal
 pub one_class : CmpEqualImpliesEq class_cmp
 one_class (Exact a) (Exact b) e = ap Exact (same_names a b e)
 one_class (Exact a) (Below b) e = let ties = both_tie (name_cmp a b) Less e in let never : Less ≡ Equal = ties.1 in cc
@@ -159,7 +159,7 @@ faults_by_parts (Overlong a) (Overlong b) = places_by_names a b
 faults_by_parts (NoAddress a) (NoAddress b) = cuts_by_names a b
 faults_by_parts a b = refl
 
--- so it is total
+-- the order of faults is total
 pub faults_total : IsTotalOrder fault_cmp
 faults_total =
     same_order parts_cmp fault_cmp faults_by_parts

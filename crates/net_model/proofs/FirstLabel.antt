@@ -15,12 +15,12 @@ use Rattle.net_model.specs.Reading.{Ground, IsNamed}
 use Rattle.net_model.proofs.Naming.{is_listed, from_listed, named_among, among_named}
 use Rattle.net_model.proofs.TrialOrder.{trials_total}
 
--- a label of a name
+-- each label of a name whose labels are right is right
 pub label_of_name : (above : Labels) (label : List ℕ) (rest : Labels) → AllByRecursion IsLabel (above ++ label ∷ rest) → IsLabel label
 label_of_name [] label rest each = each.0
 label_of_name (x ∷ above) label rest each = label_of_name above label rest each.1
 
--- how a number stands to a greater one
+-- the comparison of a number with a greater one answers that it is less
 pub nat_cmp_less : (m n : ℕ) → m < n → nat_cmp m n ≡ Less
 nat_cmp_less m n h = ap (λ b. cond b Less (cond (nat_eq m n) Equal Greater)) (lt-ltb m n h)
 
@@ -38,7 +38,7 @@ by_octets a b = slice_cmp (λ x y. nat_cmp (octet_rank x) (octet_rank y)) a b
 pub shorter_first : (a b : List ℕ) → length a < length b → trial_cmp a b ≡ Less
 shorter_first a b shorter = ap (λ o. ordering_then o (by_octets a b)) (nat_cmp_less (length a) (length b) shorter)
 
--- and one that is tried first isn't longer
+-- a label that is tried before another isn't longer
 pub first_not_longer : (a b : List ℕ) → trial_cmp a b ≡ Less → length a ≤ length b
 first_not_longer a b e =
     elim (cases_lt (length b) (length a)) [
@@ -93,7 +93,7 @@ not_found names name out = by (list_any (name_eq name) names) refl where
   by true e = absurd (out (from_listed names name e))
   by false e = refl
 
--- a label of at most so many octets is among them
+-- a label of at most so many octets is among the words of at most so many octets
 pub label_among : (most : ℕ) (label : List ℕ) → IsLabel label → length label ≤ most → Contains (words 256 most) label
 label_among most label is fits = words_have 256 most label fits (octets_of_label label is.octets)
 

@@ -27,12 +27,12 @@ module _ (configs : List Config) (given : List Labels) where
   abbrev pub starts : List Labels
   starts = flat_map origins_and_owners configs ++ given
 
-  -- what begins one of them is a base name
+  -- a name that begins an origin, an owner or a given name is a base name of the joined ground
   pub front_is_base : (start name : Labels) → Contains starts start → Begins name start → Contains (joined_ground configs given).names name
   front_is_base start name has begins =
       has_later [] (flat_map prefixes starts) name (flat_map_has prefixes starts start name has (prefixes_have start name begins))
 
-  -- and no other name but the root
+  -- a base name of the joined ground is the root or begins an origin, an owner or a given name
   pub base_is_front : (name : Labels) → Contains (joined_ground configs given).names name
       → ([] ≡ name) ⊎ ((start : Labels) × Contains starts start × Begins name start)
   base_is_front name has =
@@ -43,11 +43,11 @@ module _ (configs : List Config) (given : List Labels) where
             inr (start, among, from_prefixes start name front))
       ]
 
-  -- the root is one
+  -- the root is a base name of the joined ground
   pub root_is_base : Contains (joined_ground configs given).names []
   root_is_base = has_first [] (flat_map prefixes starts)
 
-  -- they have their prefixes
+  -- the prefixes of a base name of the joined ground are base names
   pub above_is_base : (above below : Labels) → Contains (joined_ground configs given).names (above ++ below)
       → Contains (joined_ground configs given).names above
   above_is_base above below has =
@@ -60,7 +60,7 @@ module _ (configs : List Config) (given : List Labels) where
       of_root [] e = root_is_base
       of_root (label ∷ rest) e = absurd cc
 
-  -- each origin and owner of a configuration is one
+  -- each origin and owner of one of the configurations is a base name of the joined ground
   pub start_is_base : (config : Config) → Contains configs config → (name : Labels) → Contains (origins_and_owners config) name
       → Contains (joined_ground configs given).names name
   start_is_base config has name there =
@@ -68,7 +68,7 @@ module _ (configs : List Config) (given : List Labels) where
       (Contains-append_left (flat_map origins_and_owners configs) given name (flat_map_has origins_and_owners configs config name has there))
       ([], append-nil name)
 
-  -- and so is the owner of each redirection
+  -- the owner of each redirection of the configurations is a base name of the joined ground
   pub owner_is_base : (redirection : Redirection) → Contains (flat_map redirections_of configs) redirection
       → Contains (joined_ground configs given).names redirection.owner
   owner_is_base redirection has =

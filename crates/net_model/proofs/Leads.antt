@@ -89,7 +89,7 @@ parts_at_first setting rtype back numbers from state walk e states =
     by : (later : List State) → from ∷ later ≡ state ∷ back → from ≡ state
     by later e = cc
 
--- and at each later one
+-- a walk parts at each of its states: the numbers up to there lead to the state, and the others are a walk from it
 pub walk_leads : (setting : Setting) (rtype : RrType) (front back : List State) (numbers : List ℕ) (from state : State) (walk : Walk)
     → walk_from setting rtype numbers from ≡ Some walk → walk.states ≡ front ++ state ∷ back → PartsAt setting rtype from numbers walk front state back
 walk_leads setting rtype [] back numbers from state walk e states = parts_at_first setting rtype back numbers from state walk e states

@@ -45,12 +45,12 @@ pub data Learning : Type 0 where
   ByWalk : (numbers : List ℕ) → Learning
   ByNone : (depth : ℕ) → Learning
 
--- what is claimed of a server is so
+-- what is claimed of the server with this name holds
 abbrev pub claims : Setting → List Labels → Labels → Learning → Bool
 claims setting learnt name (ByWalk numbers) = is_among learnt name && walk_gives (walk_along setting name types.A numbers)
 claims setting learnt name (ByNone depth) = not (is_among learnt name) && gives_none setting name depth
 
--- what is claimed of each server is so
+-- for each of the names what is claimed of the server holds
 abbrev pub all_claims : Setting → List Labels → List Labels → List Learning → Bool
 all_claims setting learnt [] [] = true
 all_claims setting learnt (name ∷ names) (claim ∷ rest) = claims setting learnt name claim && all_claims setting learnt names rest
@@ -82,7 +82,8 @@ all_claimed setting learnt (first ∷ names) (claim ∷ rest) h name (zero, with
 all_claimed setting learnt (first ∷ names) (claim ∷ rest) h name (suc k, within, is) =
     all_claimed setting learnt names rest (and_parts (claims setting learnt first claim) _ h).1 name (k, omega arith, is)
 
--- one round, where each claim is so and the learnt names are those of the servers of which it is claimed
+-- the learnt names are those of a round, if what is claimed of each server holds and they are the servers' in their
+-- order
 pub is_round : (config : Config) (rewrites : ℕ) (followed learnt : List Labels) (rest : List Learning)
     → all_claims (following config rewrites followed) learnt (server_names config) rest ≡ true
     → learnt ≡ filter (is_among learnt) (server_names config) → IsRound config rewrites followed learnt
@@ -104,7 +105,7 @@ one_round config rewrites followed a b one other =
     (λ h. (one.tells name among).1 ((other.tells name among).0 h)))
     ∙ sym other.are
 
--- and so is what is learnt in so many rounds
+-- what is learnt in so many rounds is one list
 pub one_after_rounds : (config : Config) (rewrites rounds : ℕ) (begin a b : List Labels) → AfterRounds config rewrites rounds begin a
     → AfterRounds config rewrites rounds begin b → a ≡ b
 one_after_rounds config rewrites zero begin a b one other = one ∙ sym other
@@ -113,7 +114,7 @@ one_after_rounds config rewrites (suc rounds) begin a b (x, before, one) (y, als
     (subst (λ (names : List Labels). IsRound config rewrites names a) (one_after_rounds config rewrites rounds begin x y before also) one)
     other
 
--- so a name is in the least set where it is in a list of it
+-- a name is in the least set exactly where it is in a list of it
 pub in_least : (config : Config) (rewrites : ℕ) (learnt : List Labels) → IsLeast config rewrites learnt
     → (name : Labels) → InLeast config rewrites name ↔ Contains learnt name
 in_least config rewrites learnt least name = (
@@ -122,7 +123,7 @@ in_least config rewrites learnt least name = (
   λ among. (learnt, least, among),
 )
 
--- and in the greatest
+-- a name is in the greatest set exactly where it is in a list of it
 pub in_greatest : (config : Config) (rewrites : ℕ) (learnt : List Labels) → IsGreatest config rewrites learnt
     → (name : Labels) → InGreatest config rewrites name ↔ Contains learnt name
 in_greatest config rewrites learnt greatest name = (
@@ -137,7 +138,7 @@ pub after_same_rounds : (config : Config) (rewrites rounds : ℕ) (begin : List 
 after_same_rounds config rewrites zero begin same = refl
 after_same_rounds config rewrites (suc rounds) begin same = (begin, after_same_rounds config rewrites rounds begin same, same)
 
--- and so from a set that the first round leads to
+-- if the first round leads to a set from which a round leads to itself, each further round gives that set
 pub after_one_round : (config : Config) (rewrites rounds : ℕ) (begin learnt : List Labels) → IsRound config rewrites begin learnt
     → IsRound config rewrites learnt learnt → AfterRounds config rewrites (suc rounds) begin learnt
 after_one_round config rewrites zero begin learnt first same = (begin, refl, first)

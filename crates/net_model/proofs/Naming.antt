@@ -37,7 +37,7 @@ passed test (first ∷ names) name h all =
 pub is_listed : (names : List Labels) (name : Labels) → Contains names name → is_among names name ≡ true
 is_listed names name has = any_has (name_eq name) names name has ((name_eq_decides name name).1 refl)
 
--- and a name that is listed is an item
+-- a name that is listed is an item of the list of names
 pub from_listed : (names : List Labels) (name : Labels) → is_among names name ≡ true → Contains names name
 from_listed names name = Contains-from_any (λ a b. (name_eq_decides a b).0) name names
 
@@ -91,7 +91,7 @@ pub not_both : (b : Bool) → b ≡ true → not b ≡ true → ⊥
 not_both true h k = cc
 not_both false h k = cc
 
--- a name of such a list is not named
+-- a name of a list that is closed under readings, and has no base name, isn't named
 pub unnamed : (ground : Ground) (names : List Labels) (name : Labels) → unnamed_all ground names ≡ true → is_among names name ≡ true
     → IsNamed ground name → ⊥
 unnamed ground names name all h named =
@@ -100,7 +100,7 @@ unnamed ground names name all h named =
     not_both (is_among ground.names named.base) (is_listed ground.names named.base named.among)
     (and_parts (reads_within ground.redirections names named.base) (not (is_among ground.names named.base)) (passed _ names named.base last all)).1
 
--- the name is a base name, or so many readings lead to one
+-- the name is a base name, or so many readings at most lead from it to one
 abbrev pub named_within : ℕ → Ground → Labels → Bool
 named_within zero ground name = is_among ground.names name
 named_within (suc depth) ground name =
@@ -112,7 +112,7 @@ named_as_base : (ground : Ground) (name : Labels) → is_among ground.names name
 named_as_base ground name h =
     record { base = name; among = from_listed ground.names name h; reads = ([], refl) }
 
--- where the name that a redirection makes of a name is named, the name is
+-- a name is named if the name that a redirection makes of it is named
 pub one_reading_more : (ground : Ground) (name : Labels) (redirection : Redirection) → Contains ground.redirections redirection
     → is_prefix redirection.owner name ≡ true → IsNamed ground (swap name redirection.owner redirection.target) → IsNamed ground name
 one_reading_more ground name redirection among begins named =
@@ -143,7 +143,7 @@ by_reading depth ground name deeper (redirection, among, h) =
     one_reading_more ground name redirection among (and_parts (is_prefix redirection.owner name) _ h).0
     (deeper _ (and_parts (is_prefix redirection.owner name) _ h).1)
 
--- such a name is named
+-- a name from which so many readings at most lead to a base name is named
 pub named : (depth : ℕ) (ground : Ground) (name : Labels) → named_within depth ground name ≡ true → IsNamed ground name
 named zero ground name h = named_as_base ground name h
 named (suc depth) ground name h =
@@ -179,7 +179,8 @@ longer_unnamed ground names above name =
     unnamed_all ground names && is_among names name
     && list_all (λ prefix. nat_le (length prefix) (length above) || is_among names prefix) (prefixes name)
 
--- then the name is in the class below the named one
+-- if a name and all its prefixes longer than a named one are among unnamed names, it is in the class below the named
+-- one
 pub class_below : (depth : ℕ) (ground : Ground) (names : List Labels) (above below : Labels) → named_within depth ground above ≡ true
     → longer_unnamed ground names above (above ++ below) ≡ true → IsClassOf ground (above ++ below) (Below above)
 class_below depth ground names above below h k =
@@ -206,11 +207,11 @@ reads_itself redirections none name [] last e = e
 reads_itself redirections none name (next ∷ rest) last (once, on) =
     absurd (none_in_nil once.redirection (subst (λ (rs : List Redirection). Contains rs once.redirection) none once.among))
 
--- so the named names are those of the ground
+-- the named names of a ground without redirections are its own names
 pub named_among : (ground : Ground) → ground.redirections ≡ [] → (name : Labels) → IsNamed ground name → Contains ground.names name
 named_among ground none name is =
     subst (Contains ground.names) (sym (reads_itself ground.redirections none name is.reads.0 is.base is.reads.1)) is.among
 
--- and a name of a ground is named
+-- each name of a ground is named
 pub among_named : (ground : Ground) (name : Labels) → Contains ground.names name → IsNamed ground name
 among_named ground name has = record { base = name; among = has; reads = ([], refl) }

@@ -23,7 +23,7 @@ use Rattle.net_model.proofs.Prefixes.{from_prefixes}
 pub zone_of_config : (config : Config) (server : Server) (zone : Zone) → Contains config.servers server → Contains server.zones zone → Contains (zones config) zone
 zone_of_config config server zone has inside = flat_map_has (λ (s : Server). s.zones) config.servers server zone has inside
 
--- and its origin is an origin of the configuration
+-- the origin of a zone of the configuration is among its origins and owners
 pub origin_of_config : (config : Config) (zone : Zone) → Contains (zones config) zone → Contains (origins_and_owners config) zone.origin
 origin_of_config config zone has =
     Contains-append_left (map (λ (z : Zone). z.origin) (zones config)) (map (λ (rr : Rr). rr.owner) (records config)) zone.origin
@@ -33,7 +33,7 @@ origin_of_config config zone has =
 pub record_of_config : (config : Config) (zone : Zone) (rr : Rr) → Contains (zones config) zone → Contains zone.rrs rr → Contains (records config) rr
 record_of_config config zone rr has inside = flat_map_has (λ (z : Zone). z.rrs) (zones config) zone rr has inside
 
--- and its owner is an owner of the configuration
+-- the owner of a record of a zone of the configuration is among its origins and owners
 pub owner_of_config : (config : Config) (zone : Zone) (rr : Rr) → Contains (zones config) zone → Contains zone.rrs rr → Contains (origins_and_owners config) rr.owner
 owner_of_config config zone rr has inside =
     Contains-append_right (map (λ (z : Zone). z.origin) (zones config)) (map (λ (rr : Rr). rr.owner) (records config)) rr.owner
@@ -61,7 +61,7 @@ nearest_holds server name zone e = by (longest (λ above. is_some (zone_with_ori
       let holds = holds_origin server origin zone e in
       (holds.0, subst (λ (o : Labels). Begins o name) (sym holds.1) (from_prefixes name origin prefix))
 
--- so is that of a server by its name, which is one of the configuration
+-- the nearest zone of the server of this name is a zone of the configuration, at or above the name that is looked up
 pub nearest_tells : (config : Config) (server name : Labels) (zone : Zone) → nearest_of config server name ≡ Some zone → Contains (zones config) zone × Begins zone.origin name
 nearest_tells config server name zone e = by (server_named config server) refl e where
   by : (holder : Option Server) → server_named config server ≡ holder → option_and_then (λ holder. nearest holder name) holder ≡ Some zone

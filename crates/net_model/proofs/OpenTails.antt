@@ -52,11 +52,11 @@ module _ (zone : Zone) (above : Labels) (label : List ℕ) (rest : Labels) (insi
       false_from_ne_true (exists_in zone ((above ++ label ∷ []) ++ beneath))
       (λ e. true≢false (sym (prefix_exists zone (above ++ label ∷ []) beneath inside_next e) ∙ absent))
 
-  -- so no name with a longer front of the labels exists
+  -- if the known name with the tail's first label doesn't exist, nor does it with any other front of the tail
   pub none_exists : (below : Labels) → Contains (longer (label ∷ rest)) below → exists_in zone (above ++ below) ≡ false
   none_exists below has = let way = further below has in ap (exists_in zone) way.1 ∙ none_beneath way.0
 
-  -- and none owns a record
+  -- if the known name with the tail's first label doesn't exist, it owns no record with any front of the tail
   pub none_owns : (rtype : RrType) (below : Labels) → Contains (longer (label ∷ rest)) below → owns zone (above ++ below) rtype ≡ false
   none_owns rtype below has =
       let way = further below has in
@@ -67,13 +67,13 @@ module _ (zone : Zone) (above : Labels) (label : List ℕ) (rest : Labels) (insi
   pub whole_is_missing : exists_in zone (above ++ label ∷ rest) ≡ false
   whole_is_missing = ap (exists_in zone) (sym (append_assoc above (label ∷ []) rest)) ∙ none_beneath rest
 
-  -- so its zone cut is that of the name above
+  -- the zone cut of the known name with the tail is that of the known name
   pub zone_cut_above : zone_cut zone (above ++ label ∷ rest) ≡ zone_cut zone above
   zone_cut_above =
       shortest_above (λ name. nat_lt (length zone.origin) (length name) && owns zone name types.Ns) above (label ∷ rest)
       (λ below has. and_right (nat_lt (length zone.origin) (length (above ++ below))) (owns zone (above ++ below) types.Ns) (none_owns types.Ns below has))
 
-  -- and its closest encloser
+  -- the closest encloser of the known name with the tail is that of the known name
   pub closest_encloser_above : closest_encloser zone (above ++ label ∷ rest) ≡ closest_encloser zone above
   closest_encloser_above = longest_above (exists_in zone) above (label ∷ rest) none_exists
 
@@ -88,28 +88,29 @@ module _ (zone : Zone) (above : Labels) (label : List ℕ) (rest : Labels) (insi
       shorter_passes (nat_le (length zone.origin) (length name)) (nat_lt (length name) (length (above ++ label ∷ rest))) (owns zone name types.Dname)
       (lt-ltb (length name) (length (above ++ label ∷ rest)) (omega (arith, ap length e, length-append name below, length-append above (label ∷ rest))))
 
-  -- its DNAME owner is a prefix of the name above
+  -- the DNAME owner for the known name with the tail is a prefix of the known name
   pub dname_owner_within : dname_owner zone (above ++ label ∷ rest) ≡ shortest redirects_whole above
   dname_owner_within =
       shortest_above redirects_whole above (label ∷ rest)
       (λ below has. and_right (nat_le (length zone.origin) (length (above ++ below)) && nat_lt (length (above ++ below)) (length (above ++ label ∷ rest)))
       (owns zone (above ++ below) types.Dname) (none_owns types.Dname below has))
 
-  -- the one that redirects all names below it
+  -- the DNAME owner for the known name with the tail is the one that redirects all names below the known name
   pub dname_owner_above : dname_owner zone (above ++ label ∷ rest) ≡ redirecting zone above
   dname_owner_above =
       dname_owner_within
       ∙ find_same redirects_whole (λ name. nat_le (length zone.origin) (length name) && owns zone name types.Dname) (prefixes above)
       (λ name has. are_shorter name (from_prefixes above name has))
 
-  -- with neither, its source of synthesis decides
+  -- given the zone cut or DNAME owner above, or neither, what decides at the known name with the tail decides there
+  -- with any open tail
   pub missing_decided : (above_it : Option Deciding) → decided zone (above ++ label ∷ rest) above_it ≡ open_decided zone above above_it
   missing_decided (Some decides) = refl
   missing_decided None =
       ap (λ (b : Bool). cond b (ByRecords (above ++ label ∷ rest)) (synthesized zone (closest_encloser zone (above ++ label ∷ rest)))) whole_is_missing
       ∙ ap (synthesized zone) closest_encloser_above
 
-  -- so one value decides, whatever the rest of the labels is
+  -- one value decides at the known name with the tail, whatever the tail's other labels are
   pub deciding_open : deciding zone (above ++ label ∷ rest) ≡ open_deciding zone above
   deciding_open =
       missing_decided (shorter_decides zone (zone_cut zone (above ++ label ∷ rest)) (dname_owner zone (above ++ label ∷ rest)))

@@ -24,7 +24,7 @@ prefixes_have (label ∷ name) (first ∷ above) (below, e) =
     has_later [] (map (λ (above : Labels). label ∷ above) (prefixes name)) (first ∷ above)
     (subst (λ (x : List ℕ). Contains (map (λ (above : Labels). label ∷ above) (prefixes name)) (x ∷ above)) (sym same) has)
 
--- and no others
+-- each prefix of a name begins it
 pub from_prefixes : (name above : Labels) → Contains (prefixes name) above → Begins above name
 from_prefixes [] above has =
     elim (first_or_later [] [] above has) [
@@ -77,7 +77,7 @@ module _ (test : Labels → Bool) (above tail : Labels) (fails : (below : Labels
       let found = from_map (λ (below : Labels). above ++ below) (longer tail) name has in
       ap test (sym found.2) ∙ fails found.0 found.1
 
-  -- so the shortest prefix that passes is that of the name
+  -- if no longer prefix passes a test, the shortest that does is that of the name without the tail
   pub shortest_above : shortest test (above ++ tail) ≡ shortest test above
   shortest_above =
       ap (find test) (prefixes_below above tail)
@@ -86,7 +86,7 @@ module _ (test : Labels → Bool) (above tail : Labels) (fails : (below : Labels
       (find_none test (map (λ (below : Labels). above ++ below) (longer tail)) longer_fails)
       ∙ or_nothing (find test (prefixes above))
 
-  -- and so is the longest
+  -- if no longer prefix passes a test, the longest that does is that of the name without the tail
   pub longest_above : longest test (above ++ tail) ≡ longest test above
   longest_above =
       let names : List Labels = map (λ (below : Labels). above ++ below) (longer tail) in

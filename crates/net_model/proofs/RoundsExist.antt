@@ -97,7 +97,8 @@ module _ (setting : Setting) (rtype : RrType) where
   by_rewrites (suc left) state near many =
       by_cut (suc left) (λ to also less. by_rewrites left to also (omega arith)) (length state.name - state.cut) state near many (omega arith)
 
-  -- so each state settles, by as many rewrites and labels of cuts as are left
+  -- the walks from a state have no more states than some number, if its zone cut isn't below the zone in which its name
+  -- is looked up
   pub settles : (state : State) → IsNear setting state → Settles state
   settles state near = by_rewrites (setting.rewrites - state.used) state near (omega arith)
 
@@ -186,7 +187,7 @@ round_exists config rewrites followed =
       },
     )
 
--- and so have so many
+-- from each list of names so many rounds lead to some list
 pub rounds_exist : (config : Config) (rewrites rounds : ℕ) (begin : List Labels) → (learnt : List Labels) × AfterRounds config rewrites rounds begin learnt
 rounds_exist config rewrites zero begin = (begin, refl)
 rounds_exist config rewrites (suc rounds) begin =

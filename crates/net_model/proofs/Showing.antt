@@ -39,7 +39,7 @@ all_leaves_pass test setting query rtype depth = list_all (leaves_pass test sett
 abbrev LeavesPass : (Leaf → Bool) → Setting → RrType → State → Type 0
 LeavesPass test setting rtype state = (depth : ℕ) × (leaves_pass test setting rtype depth state ≡ true)
 
--- so the leaf of each walk passes
+-- if the check of all walks of a query up to so many states succeeds, the leaf of each walk passes the test
 pub walk_passes : (test : Leaf → Bool) (setting : Setting) (query : Labels) (rtype : RrType) (depth : ℕ)
     → all_leaves_pass test setting query rtype depth ≡ true → (walk : Walk) → IsWalk setting query rtype walk → test walk.leaf ≡ true
 walk_passes test setting query rtype depth all walk (numbers, along) =

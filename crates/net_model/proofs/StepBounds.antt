@@ -71,7 +71,7 @@ module _ (zone : Zone) (name : Labels) (rtype : RrType) (cut : Labels) (names : 
     by true e = cc
     by false e = cc
 
-  -- and it is the name's zone cut that decides
+  -- if a zone cut decides at a name, it is the name's zone cut
   pub is_the_cut : (found_cut owner : Option Labels) → decided zone name (shorter_decides zone found_cut owner) ≡ ByCut cut → found_cut ≡ Some cut
   is_the_cut (Some other) None e = let same : other ≡ cut = cc in ap (λ (x : Labels). Some x) same
   is_the_cut (Some other) (Some owner) e = by (nat_lt (length owner) (length other)) e where
@@ -186,7 +186,7 @@ module _ (setting : Setting) (state : State) where
           omega (arith, length-append cut begins.0, ap (λ (x : Labels). length x) begins.1),
         ))
 
--- so less is left
+-- behind a step less is left, in rewrites and in labels by which a zone cut may get longer
 pub less_left : (setting : Setting) (state : State) (hop : Hop) (to : State) → StepsOn setting state hop to → state.cut ≤ 127 → to.cut ≤ 127
     → left_of setting to < left_of setting state
 less_left setting state (Refer cut) to steps short also =

@@ -15,7 +15,7 @@ whole_part ground names tree =
       );
     }
 
--- and back
+-- the part of the class tree at or below the root is the class tree
 pub part_whole : (ground : Ground) (names : List Labels) → IsTreePart ground [] names → IsClassTree ground names
 part_whole ground names part =
     record {

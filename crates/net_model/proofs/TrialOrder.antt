@@ -25,14 +25,14 @@ octet_with rank =
 rank_tells : (octet : ℕ) → octet_with (octet_rank octet) ≡ octet
 rank_tells octet = grind (arith, nat_tests)
 
--- labels of which neither is tried before the other are one
+-- labels of which neither is tried before the other are equal
 pub exact_trials : CmpEqualImpliesEq trial_cmp
 exact_trials a b e =
     exact_lists (λ x y. nat_cmp (octet_rank x) (octet_rank y))
     (λ x y tie. sym (rank_tells x) ∙ ap octet_with (exact_unsigned (octet_rank x) (octet_rank y) tie) ∙ rank_tells y) a b
     (both_tie (nat_cmp (length a) (length b)) (slice_cmp (λ x y. nat_cmp (octet_rank x) (octet_rank y)) a b) e).1
 
--- the order is total
+-- the order in which labels are tried is total
 pub trials_total : IsTotalOrder trial_cmp
 trials_total = then_total (on_total length nat_cmp_total) (lists_total (on_total octet_rank nat_cmp_total))
 

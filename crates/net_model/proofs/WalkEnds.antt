@@ -11,7 +11,7 @@ use Rattle.net_model.specs.Step.{Setting, Branch, Go, End, next, start}
 use Rattle.net_model.specs.Walk.{walk_from, walk_along}
 use Rattle.net_model.proofs.Leads.{GoesOn, EndsBy, branch_taken}
 
--- an item of a list is as all of them are
+-- what holds of all items of a list holds of each
 pub item : {X : Type 0} (P : X → Type 0) (xs : List X) (number : ℕ) (x : X) → AllByRecursion P xs → slice_get xs number ≡ Some x → P x
 item P [] number x all e = cc
 item P (first ∷ xs) zero x all e = let same : first ≡ x = cc in subst P same all.0
@@ -24,7 +24,8 @@ LeadsSo of_state of_leaf (End hop leaf) = of_leaf leaf
 
 module _ (setting : Setting) (rtype : RrType) (of_state : State → Type 0) (of_leaf : Leaf → Type 0)
     (steps : (state : State) → of_state state → (number : ℕ) (branch : Branch) → slice_get (next setting rtype state) number ≡ Some branch → LeadsSo of_state of_leaf branch) where
-  -- where each branch of a state of the kind does so, a walk from such a state ends so
+  -- if each branch of a state of a kind leads to such a state or ends in a leaf of a kind, each walk from such a state
+  -- ends in such a leaf
   pub walk_from_ends : (numbers : List ℕ) (state : State) (walk : Walk) → of_state state → walk_from setting rtype numbers state ≡ Some walk → of_leaf walk.leaf
   walk_from_ends [] state walk is e = cc
   walk_from_ends (number ∷ numbers) state walk is e =
@@ -40,7 +41,7 @@ module _ (setting : Setting) (rtype : RrType) (of_state : State → Type 0) (of_
       by (inr ends) rest =
           subst (λ (w : Walk). of_leaf w.leaf) ends.made (steps state is number (End ends.hop ends.leaf) ends.is)
 
-  -- and so does a walk of a query that begins in such states
+  -- a walk of a query that begins in states of the kind ends in a leaf of the kind
   pub walk_ends : (query : Labels) → ((number : ℕ) (state : State) → slice_get (start setting.config query) number ≡ Some state → of_state state)
       → (numbers : List ℕ) (walk : Walk) → walk_along setting query rtype numbers ≡ Some walk → of_leaf walk.leaf
   walk_ends query begins [] walk e = cc

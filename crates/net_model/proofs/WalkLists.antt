@@ -15,7 +15,7 @@ use Rattle.net_model.specs.Step.{Setting, start}
 use Rattle.net_model.specs.Walk.{walk_along, path_cmp, AreWalks}
 use Rattle.net_model.proofs.AllWalks.{Numbered, all_along, walks_within, Settled, walk_of, all_along_are, none_missing_along, same_walks_along, along_ordered}
 
--- lists are one where their items under `Some` are
+-- lists are equal if their items under `Some` are
 pub same_items : {X : Type 0} (xs ys : List X) → map (λ (x : X). Some x) xs ≡ map (λ (x : X). Some x) ys → xs ≡ ys
 same_items [] [] e = refl
 same_items [] (y ∷ ys) e = cc
@@ -49,19 +49,19 @@ module _ (setting : Setting) (rtype : RrType) (depth : ℕ) (query : Labels) whe
   abbrev pub numbered : List Numbered
   numbered = all_along depth setting rtype query
 
-  -- the numbers of a walk that has them
+  -- the numbers of a walk that is listed with them
   abbrev pub numbers_of : Numbered → List ℕ
   numbers_of x = x.0
 
-  -- the numbers of all these walks, in order
+  -- the lists of numbers of all walks of the query of so many states at most, in order
   abbrev pub paths : List (List ℕ)
   paths = map numbers_of numbered
 
-  -- all these walks, without numbers
+  -- all walks of the query of so many states at most, without their numbers
   abbrev pub total : List Walk
   total = flat_map (walks_within depth setting rtype) (start setting.config query)
 
-  -- as many numbers as walks
+  -- as many lists of numbers as walks are listed
   pub as_many : length paths ≡ length total
   as_many = length-map numbered numbers_of ∙ sym (length-map numbered walk_of) ∙ ap (λ (xs : List Walk). length xs) (same_walks_along setting rtype depth query)
 
@@ -70,18 +70,18 @@ module _ (setting : Setting) (rtype : RrType) (depth : ℕ) (query : Labels) whe
       let found = from_map numbers_of numbered numbers has in
       subst (λ (ns : List ℕ). IsSome (walk_along setting query rtype ns)) found.2 (ap is_some (all_along_are setting rtype depth query found.0 found.1))
 
-  -- each list of numbers that leads along a walk is among them
+  -- each list of numbers that leads along a walk of the query is listed
   pub has_walk : AllByRecursion (Settled depth setting rtype) (start setting.config query) → (numbers : List ℕ)
       → IsSome (walk_along setting query rtype numbers) → Contains paths numbers
   has_walk settled numbers some =
       let walk = the_walk (walk_along setting query rtype numbers) some in
       map_has numbers_of numbered (numbers, walk.0) (none_missing_along setting rtype depth query numbers walk.0 settled walk.1)
 
-  -- the numbers stand in order
+  -- the lists of numbers of a query's walks stand in order
   pub ordered : AllPairs (λ a b. path_cmp a b ≡ Less) paths
   ordered = pairs_of_images numbers_of (λ a b. path_cmp a b ≡ Less) numbered (along_ordered setting rtype depth query)
 
-  -- they are all walks of the query
+  -- the listed walks are all walks of the query
   pub are_walks : (walks : List Walk) → walks ≡ total → AllByRecursion (Settled depth setting rtype) (start setting.config query) → AreWalks setting query rtype walks
   are_walks walks is settled = (
     paths,

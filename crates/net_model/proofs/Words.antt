@@ -37,7 +37,7 @@ place_at server zone owner = record { server = server; zone = zone; owner = owne
 abbrev pub cut_at : Labels → Labels → Labels → Labels → Cut
 cut_at server zone cut ns = record { server = server; zone = zone; cut = cut; ns = ns }
 
--- with so many rewrites, and every configured server followed
+-- walks of so many rewrites at most while every configured server is followed
 abbrev pub following_all : Config → ℕ → Setting
 following_all config rewrites = following config rewrites (server_names config)
 

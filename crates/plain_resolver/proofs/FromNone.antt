@@ -6,20 +6,20 @@ use Rattle.net_model.specs.Learnt.{AfterRounds, IsLeast}
 use Rattle.plain_resolver.specs.Passed.{IsFirstWithTooMany, NoneInRounds}
 
 module _ (config : Config) (rewrites : ℕ) (begin : List Labels) (none : begin ≡ []) where
-  -- what is learnt is the least set
+  -- what is learnt after as many rounds as there are servers is the least set
   pub least_from_none : (followed learnt : List Labels) → followed ≡ learnt → AfterRounds config rewrites (length config.servers) begin learnt
       → IsLeast config rewrites followed
   least_from_none followed learnt same rounds =
       subst (IsLeast config rewrites) (sym same)
       (subst (λ (names : List Labels). AfterRounds config rewrites (length config.servers) names learnt) none rounds)
 
-  -- where no name has too many walks in its rounds, none has in those from no server
+  -- if no server's name has too many walks in the rounds from here, none has in those from no server
   pub few_from_none : (most : ℕ) → NoneInRounds config rewrites most begin (length config.servers)
       → NoneInRounds config rewrites most [] (length config.servers)
   few_from_none most few =
       subst (λ (names : List Labels). NoneInRounds config rewrites most names (length config.servers)) none few
 
-  -- the first name that has too many in them is the first one there
+  -- the first server's name with too many walks in the rounds from here is the first in those from no server
   pub first_from_none : (most : ℕ) (server : Labels) → IsFirstWithTooMany config rewrites most begin server
       → IsFirstWithTooMany config rewrites most [] server
   first_from_none most server first =

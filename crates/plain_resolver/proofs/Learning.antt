@@ -20,6 +20,7 @@ use Rattle.net_model.proofs.RoundsExist.{learns_decided}
 use Rattle.plain_resolver.specs.Passed.{HasTooMany, NoneHasTooMany, NoneInRounds, IsFirstToPass}
 
 module _ (setting : Setting) (name : Labels) (rtype : RrType) (walks : List Walk) (are : AreWalks setting name rtype walks) where
+  -- the walk ends with an address
   abbrev pub gives : Walk → Bool
   gives walk = gives_address walk.leaf
 
@@ -40,7 +41,7 @@ module _ (setting : Setting) (name : Labels) (rtype : RrType) (walks : List Walk
       let same : found.0 ≡ walk = cc in
       subst (Contains walks) same found.1
 
-  -- so an address is learnt exactly where one of them gives one
+  -- the test says that an address is learnt exactly if one of the walks gives one
   pub learns_told : (test : Bool) → test ≡ list_any gives walks → (test ≡ true) ↔ LearnsBy setting name rtype
   learns_told test is = (
     λ some.
@@ -90,7 +91,7 @@ one_more config rewrites most begin followed rounds none after few =
           subst (NoneHasTooMany config rewrites most) (one_after_rounds config rewrites rounds begin followed other after also) few)
     ]
 
--- the same with the numbers of the code
+-- if no server's name has too many walks in the set after some rounds, none has in one round more
 pub next_few : (config : Config) (rewrites most : ℕ) (begin followed : List Labels) (rounds : ℕ) → NoneInRounds config rewrites most begin rounds
     → AfterRounds config rewrites rounds begin followed → NoneHasTooMany config rewrites most followed → NoneInRounds config rewrites most begin (rounds + 1)
 next_few config rewrites most begin followed rounds none after few =
@@ -102,7 +103,7 @@ pub next_round : (config : Config) (rewrites : ℕ) (begin followed learnt : Lis
 next_round config rewrites begin followed learnt rounds after round =
     subst (λ (n : ℕ). AfterRounds config rewrites n begin learnt) (let e : suc rounds ≡ rounds + 1 = omega arith in e) (followed, after, round)
 
--- and every later one, where a round leads from the set to itself
+-- if a round leads from a set to itself, and no server's name has too many walks in it, none has in any later round
 pub all_more : (config : Config) (rewrites most : ℕ) (begin followed : List Labels) (rounds total : ℕ) → NoneInRounds config rewrites most begin rounds
     → AfterRounds config rewrites rounds begin followed → NoneHasTooMany config rewrites most followed → IsRound config rewrites followed followed
     → NoneInRounds config rewrites most begin total
@@ -125,7 +126,7 @@ module _ (config : Config) (rewrites most : ℕ) (followed : List Labels) (serve
       ap (map (λ (s : Server). s.name)) (take_more servers index server within ∙ ap (λ (s : Server). take index servers ++ s ∷ []) (sym is))
       ∙ map-append (λ (s : Server). s.name) (take index servers) (server ∷ [])
 
-  -- one more is learnt, or isn't
+  -- the names learnt in a round up to the next server are those before and the next one, if the test says so
   pub learnt_more : (learnt new : List Labels) (test : Bool) → learnt ≡ filter (test_while config rewrites followed) (map (λ (s : Server). s.name) (take index servers))
       → (test ≡ true) ↔ Learns (following config rewrites followed) server.name → new ≡ learnt ++ (if test then server.name ∷ [] else [])
       → new ≡ filter (test_while config rewrites followed) (map (λ (s : Server). s.name) (take (index + 1) servers))
@@ -136,7 +137,7 @@ module _ (config : Config) (rewrites most : ℕ) (followed : List Labels) (serve
       ∙ ap (λ (names : List Labels). names ++ cond (f server.name) (server.name ∷ []) []) before
       ∙ sym (ap (filter f) names_more ∙ filter-append f (map (λ (s : Server). s.name) (take index servers)) (server.name ∷ []))
 
-  -- and it hasn't too many walks
+  -- no server's name up to the next has too many walks, if none before has nor the next one
   pub few_more : ((name : Labels) → Contains (map (λ (s : Server). s.name) (take index servers)) name → HasTooMany config rewrites most followed name → ⊥)
       → (HasTooMany config rewrites most followed server.name → ⊥)
       → (name : Labels) → Contains (map (λ (s : Server). s.name) (take (index + 1) servers)) name → HasTooMany config rewrites most followed name → ⊥
@@ -149,7 +150,7 @@ module _ (config : Config) (rewrites most : ℕ) (followed : List Labels) (serve
         ]
       ]
 
-  -- or it is the first that has
+  -- the next server's name is the first with too many walks, if none before has too many and it has
   pub first_to_pass : servers ≡ config.servers → ((name : Labels) → Contains (map (λ (s : Server). s.name) (take index servers)) name → HasTooMany config rewrites most followed name → ⊥)
       → HasTooMany config rewrites most followed server.name → IsFirstToPass config rewrites most followed server.name
   first_to_pass are before many =

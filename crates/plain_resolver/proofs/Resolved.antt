@@ -15,7 +15,7 @@ use Rattle.net_model.proofs.AllWalks.{Settled, all_along_are}
 use Rattle.net_model.proofs.WalkLists.{numbered, paths, total, numbers_of, as_many, ordered, has_walk}
 
 module _ (setting : Setting) (rtype : RrType) (depth : ℕ) (query : Labels) where
-  -- where there are more than so many, the query has more
+  -- if more walks than so many are listed, the query has more walks
   pub has_more : (most : ℕ) → most < length (total setting rtype depth query) → HasMoreWalks setting query rtype most
   has_more most more = record {
     items = paths setting rtype depth query;
@@ -27,7 +27,7 @@ module _ (setting : Setting) (rtype : RrType) (depth : ℕ) (query : Labels) whe
         (λ x has. ap is_some (all_along_are setting rtype depth query x has));
   }
 
-  -- and where there aren't, it hasn't
+  -- if no more walks than so many are listed, the query has no more walks
   pub has_no_more : (most : ℕ) → length (total setting rtype depth query) ≤ most → AllByRecursion (Settled depth setting rtype) (start setting.config query) → HasMoreWalks setting query rtype most → ⊥
   has_no_more most few settled =
       no_more_than (λ (ns : List ℕ). IsSome (walk_along setting query rtype ns)) most (paths setting rtype depth query) (omega (arith, few, as_many setting rtype depth query)) (has_walk setting rtype depth query settled)

@@ -20,11 +20,11 @@ use Rattle.plain_resolver.specs.Begun.{Begun, led_along, ended, states_left, wal
 abbrev pub nothing : Begun
 nothing = record { states = []; hops = [] }
 
--- the begun walk with the state
+-- the begun walk with the state behind it
 abbrev pub entered : Begun → State → Begun
 entered begun state = record { states = begun.states ++ state ∷ []; hops = begun.hops }
 
--- and with a hop from it
+-- the begun walk with the state and a hop from it behind it
 abbrev pub gone : Begun → State → Hop → Begun
 gone begun state hop = record { states = begun.states ++ state ∷ []; hops = begun.hops ++ hop ∷ [] }
 
@@ -53,17 +53,17 @@ module _ (asked : Asked) where
     pub fewer_left : states_left asked (entered begun state) < states_left asked begun
     fewer_left = omega (arith, one_less_left)
 
-    -- the states to which its branches lead have walks of no more states than are left then
+    -- once a state is entered, the states to which its branches lead have walks of no more states than are left
     pub branches_settled : AllByRecursion (LeadsTo (Settled (states_left asked (entered begun state)) asked.setting asked.rtype)) (next asked.setting asked.rtype state)
     branches_settled = subst (λ (depth : ℕ). Settled depth asked.setting asked.rtype state) one_less_left settled
 
-    -- and their walks are those of the state
+    -- the walks that a state's branches give are the walks from the state
     pub walks_by_branches : flat_map (walks_by (walks_on asked (entered begun state)) state) (next asked.setting asked.rtype state) ≡ walks_on asked begun state
     walks_by_branches = sym (ap (λ (depth : ℕ). walks_within depth asked.setting asked.rtype state) one_less_left)
 
 -- ---- the branches of a state
 
--- nothing before a walk
+-- walks with nothing before them are the walks
 pub along_nothing : (walks : List Walk) → map (led_along nothing) walks ≡ walks
 along_nothing [] = refl
 along_nothing (walk ∷ walks) = ap (λ (ws : List Walk). walk ∷ ws) (along_nothing walks)
@@ -81,7 +81,7 @@ module _ (begun : Begun) (state : State) where
       ∙ ap (λ (ws : List Walk). led_along begun (led_on state hop walk) ∷ ws) (all_along_on hop walks)
 
   module _ (on : State → List Walk) where
-    -- the walks that branches give
+    -- the walks that the branches give from the state
     abbrev pub by_branches : List Branch → List Walk
     by_branches branches = flat_map (walks_by on state) branches
 
@@ -107,7 +107,7 @@ module _ (begun : Begun) (state : State) where
           ∙ ap (λ (ws : List Walk). fold after old ws) (sym (going_gives hop to rest))
           ∙ before
 
-      -- and one that ends
+      -- what is shown when a branch was followed that ends
       pub shown_ending : (hop : Option Hop) (leaf : Leaf) (rest : List Branch) → fold after old (map (led_along begun) (by_branches (End hop leaf ∷ rest))) ≡ total
           → new ≡ after old (ended (entered begun state) hop leaf) → fold after new (map (led_along begun) (by_branches rest)) ≡ total
       shown_ending hop leaf rest before is = ap (λ (v : V). fold after v (map (led_along begun) (by_branches rest))) is ∙ before
@@ -119,7 +119,7 @@ pub all_listed : (before walks : List Walk) → fold (λ (all : List Walk) (walk
 all_listed before [] = sym (append-nil before)
 all_listed before (walk ∷ walks) = all_listed (before ++ walk ∷ []) walks ∙ append_assoc before (walk ∷ []) walks
 
--- whether one has a property
+-- whether one of the walks shown has a property, or it was seen before
 pub any_seen : (gives : Walk → Bool) (seen : Bool) (walks : List Walk) → fold (λ (b : Bool) (walk : Walk). b || gives walk) seen walks ≡ (seen || list_any gives walks)
 any_seen gives true [] = refl
 any_seen gives false [] = refl

@@ -60,7 +60,7 @@ filed_after_push accepted event old new k w t c h =
     subst (λ xs. Contains xs (Claim w t)) (sym all) (new w t c p.1))
     (slice_get_push_cases accepted event (File w t c) k h)
 
--- events that claim nothing, file nothing and stop nothing
+-- an event that claims nothing, files nothing and stops nothing leaves the history legal
 pub booked_quiet : (limit : ℕ) (accepted : List Event) (spots spots' : List Spot) (stop : Option StopCause) (event : Event) → Booked limit accepted spots stop
     → history_entry event ≡ None → ((t : ℕ) → is_claim_of t event ≡ false) → ((t : ℕ) → is_filing_of t event ≡ false) → length spots' ≡ length spots
     → ((t : ℕ) → spot_is_claimed (slice_get spots' t) ≡ spot_is_claimed (slice_get spots t))
@@ -83,7 +83,7 @@ booked_quiet limit accepted spots spots' stop event b none no_claim no_filing le
       stopped = ap first_stop same ∙ b.stopped;
     }
 
--- a ticket whose spot is not claimed, nor filed
+-- the claim of a ticket that is neither claimed nor filed leaves the history legal
 pub booked_claim : (limit : ℕ) (accepted : List Event) (spots : List Spot) (w t : ℕ) → Booked limit accepted spots None → t < length spots
     → spot_is_claimed (slice_get spots t) ≡ false → spot_is_filed (slice_get spots t) ≡ false
     → Booked limit (accepted ++ Claim w t ∷ []) (set spots t (Claimed w)) None
@@ -119,7 +119,7 @@ booked_claim limit accepted spots w t b ht not_claimed not_filed =
       stopped = ap first_stop same ∙ first_stop_push (shadow accepted) (ClaimEntry t) ∙ rw b.stopped refl;
     }
 
--- a ticket that w claimed
+-- the filing of a ticket that the worker claimed, with room for the children, leaves the history legal
 pub booked_file : (limit : ℕ) (accepted : List Event) (spots : List Spot) (stop : Option StopCause) (w t c : ℕ) → Booked limit accepted spots stop
     → slice_get spots t ≡ Some (Claimed w) → length spots + c ≤ limit
     → Booked limit (accepted ++ File w t c ∷ []) (set spots t Filed ++ replicate c (Issued w)) stop

@@ -26,7 +26,7 @@ use Rattle.pool_core.proofs.Sound.{Sound, sound_run}
 abbrev pub held_in : Deque → List ℕ
 held_in d = d.held
 
--- one more accepted event
+-- the pool of a run with one more accepted event is the one in which that event happens
 pub run_more : (w l : ℕ) (es es' : List Event) (pool : Pool) (event : Event) → run w l es ≡ pool → refusal pool event ≡ None → es' ≡ es ++ event ∷ [] → run w l es' ≡ happens pool event
 unfolding run
 run_more w l es es' pool event view ok more =
@@ -41,7 +41,7 @@ held_new : (n : ℕ) → map held_in (replicate n new_deque) ≡ replicate n []
 held_new zero = refl
 held_new (suc n) = ap (λ (x : List (List ℕ)). [] ∷ x) (held_new n)
 
--- the fields before the first event
+-- the fields before the first event are those of the new pool
 pub kept_new : (w l : ℕ) (es : List Event) (spots : List Spot) (queues : List (List ℕ)) → es ≡ [] → spots ≡ Issued 0 ∷ [] → queues ≡ replicate w [] → 1 ≤ l → IsPoolAfter (run w l es) w l es spots queues None
 kept_new w l es spots queues e s q some =
     subst (λ (p : Pool). IsPoolAfter p w l es spots queues None) (sym (ap (run w l) e ∙ run_none w l)) (record {
@@ -67,7 +67,7 @@ then_some_is : (b : Bool) (fault : StepFault) → then_some b fault ≡ cond b (
 then_some_is true fault = refl
 then_some_is false fault = refl
 
--- what `resize` leaves
+-- resizing a list of spots to one that is longer puts as many new ones behind it
 pub resized : (spots : List Spot) (len n c : ℕ) (new : Spot) → len ≡ length spots → n ≡ len + c → take n spots ++ replicate (n - len) new ≡ spots ++ replicate c new
 resized spots len n c new e m =
     let more : n - len ≡ c = omega arith in
@@ -88,7 +88,7 @@ module _ (w l : ℕ) (es : List Event) (spots : List Spot) (queues : List (List 
   pub few_issued : length spots ≤ l
   few_issued = omega (arith, sound_here.booked.within, here.limit_is, ap length here.spots_are)
 
-  -- a deque for each worker
+  -- there are as many queues as workers
   pub queue_count : length queues ≡ w
   queue_count = ap length (sym here.queues_are) ∙ length-map pool.deques held_in ∙ sound_here.queued.each ∙ here.workers_are
 
@@ -124,7 +124,7 @@ module _ (w l : ℕ) (es : List Event) (spots : List Spot) (queues : List (List 
       let a = accepts_file pool worker t c ok in
       (omega (arith, a.ticket, ap length here.spots_are), omega (arith, a.room, here.limit_is, ap length here.spots_are))
 
-  -- whether there is room for the children
+  -- whether there is room for the children of a filing is whether it is refused as too many
   pub too_many_is : (worker t c n : ℕ) → n ≡ length spots → then_some (ltb (l - n) c) (TooMany n l) ≡ too_many pool (File worker t c)
   too_many_is worker t c n e =
       let n_is : n ≡ length pool.spots = e ∙ ap length (sym here.spots_are) in

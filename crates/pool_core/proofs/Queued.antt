@@ -26,7 +26,7 @@ pub record Queued (workers : ℕ) (spots : List Spot) (deques : List Deque) : Ty
   pub splits : (d : ℕ) → taken_from (at deques d) ++ (at deques d).held ≡ (at deques d).pushed
   pub takers : (d : ℕ) → AllByRecursion (λ (p : ℕ × ℕ). p.0 < workers) (at deques d).taken
 
--- where the ticket waits
+-- if the test says that a spot waits in a deque, it does
 pub waits_in_is : (d : ℕ) (s : Option Spot) → waits_in d s ≡ true → s ≡ Some (Waiting d)
 waits_in_is d None h = absurd cc
 waits_in_is d (Some (Issued w)) h = absurd cc
@@ -39,11 +39,11 @@ cond_suc : (n : ℕ) (b : Bool) → suc n ≡ cond b 1 0 → b ≡ true
 cond_suc n true h = refl
 cond_suc n false h = absurd (omega arith)
 
--- a ticket that stands in a deque waits in it
+-- a ticket that stands in a deque by count waits in it
 pub waits_from_times : (d n : ℕ) (s : Option Spot) → suc n ≡ cond (waits_in d s) 1 0 → s ≡ Some (Waiting d)
 waits_from_times d n s h = waits_in_is d s (cond_suc n (waits_in d s) h)
 
--- events that touch no deque, and move no ticket into or out of one
+-- deques stay right after events that touch no deque and move no ticket into or out of one
 pub queued_keep : (workers : ℕ) (spots spots' : List Spot) (deques : List Deque) → ((d k : ℕ) → waits_in d (slice_get spots' k) ≡ waits_in d (slice_get spots k)) → Queued workers spots deques → Queued workers spots' deques
 queued_keep workers spots spots' deques same q =
     record {

@@ -115,10 +115,10 @@ lawful_new workers limit some = lawful (new_pool workers limit) (sound_new worke
 sound_from_run : (pool : Pool) → IsRunOfAccepted pool → 1 ≤ pool.limit → Sound pool
 sound_from_run pool is some = subst Sound (sym is) (sound_run pool.workers pool.limit pool.accepted some)
 
--- the pool that a call leaves as it was
+-- all sentences of the law hold of a pool that a call leaves as it was
 pub lawful_same : (pool new : Pool) → IsRunOfAccepted pool → 1 ≤ pool.limit → new ≡ pool → Lawful new
 lawful_same pool new is some e = subst Lawful (sym e) (lawful pool (sound_from_run pool is some))
 
--- the pool after an accepted event
+-- all sentences of the law hold of the pool after an accepted event
 pub lawful_happens : (pool new : Pool) (event : Event) → IsRunOfAccepted pool → 1 ≤ pool.limit → refusal pool event ≡ None → new ≡ happens pool event → Lawful new
 lawful_happens pool new event is some ok e = subst Lawful (sym e) (lawful (happens pool event) (sound_happens pool event (sound_from_run pool is some) ok))

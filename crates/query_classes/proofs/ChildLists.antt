@@ -12,7 +12,7 @@ use Rattle.label_graph.specs.LiveSet.{IsClosed, IsLiveSet}
 use Rattle.query_classes.specs.Children.{AreChildren, IsInTree, IsOneBelow}
 use Rattle.query_classes.proofs.FirstFree.{taken, taken_one, taken_named, named_taken}
 
--- two lists of them are one
+-- two lists of the children of a name are equal
 pub one_children : (ground : Ground) (above : Labels) (a b : List Labels) → AreChildren ground above a → AreChildren ground above b → a ≡ b
 one_children ground above a b one other =
     same_rising name_cmp names_total a b one.ordered other.ordered
@@ -95,7 +95,7 @@ order_rises (item ∷ names) = put_rises item (in_order name_cmp names) (order_r
 
 -- ---- the list of children
 
--- there is such a list, where a live set of the name is known
+-- each name with a known live set has a list of its children
 pub children_exist : (ground : Ground) → IsClosed ground → (above : Labels) (live : List ℕ) → IsLiveSet ground above live
     → (names : List Labels) × AreChildren ground above names
 children_exist ground closed above live of = (

@@ -82,14 +82,14 @@ module _ (ground : Ground) (closed : IsClosed ground) where
         shortest = not_shorter above label first;
       }
 
-  -- where it is too long, or there is none, the class is empty
+  -- the class below a name is empty if the name with its first free label is too long
   pub empty_long : (above : Labels) (label : List ℕ) → IsFirstUnnamed ground above label → 255 < wire_octets (above ++ label ∷ []) → IsEmptyClass ground (Below above)
   empty_long above label first long member is of =
       let size : wire_octets (above ++ label ∷ []) ≤ wire_octets member = not_shorter above label first member is of in
       let short : wire_octets member ≤ 255 = is.short in
       omega arith
 
-  -- so it is where each label makes a named name
+  -- the class below a name is empty if each label makes a named name
   pub empty_full : (above : Labels) → ((label : List ℕ) → IsLabel label → IsNamed ground (above ++ label ∷ [])) → IsEmptyClass ground (Below above)
   empty_full above full member is (unnamed, longest) = by longest.below longest.prefix where
     by : (below : Labels) → member ≡ above ++ below → ⊥
@@ -141,7 +141,7 @@ module _ (ground : Ground) (closed : IsClosed ground) where
 pub first_label_of : (above : Labels) (label : List ℕ) (rest : Labels) → IsName (above ++ label ∷ rest) → IsLabel label
 first_label_of above label rest is = label_of_name above label rest is.labels
 
--- a name with one label more passed
+-- if one label more of a name is passed, the name is what was passed with it and what is left
 pub label_more : (name above rest after : Labels) (own octets : List ℕ) → name ≡ above ++ rest → rest ≡ octets ∷ after → own ≡ octets
     → name ≡ (above ++ own ∷ []) ++ after
 label_more name above rest after own octets passed first same =
@@ -154,7 +154,7 @@ not_named ground name live of none named =
     none_in_nil place (subst (λ (l : List ℕ). Contains l place) none
     ((of.live place below).1 (subst (λ (n : Labels). ReadsOnTo ground.redirections name n) (sym is) named.reads)))
 
--- one with a live base name is
+-- a name with a live base name is named
 pub live_named : (ground : Ground) (name : Labels) (live : List ℕ) → IsLiveSet ground name live → (live ≡ [] → ⊥) → IsNamed ground name
 live_named ground name [] of some = absurd (some refl)
 live_named ground name (place ∷ live) of some =

@@ -160,7 +160,7 @@ module _ (ground : Ground) (above : Labels) (rows : List ClassRow) (tree : IsTre
     by (Below name) in_tree stands =
         below_is_among name listed.representative ((below.all name).1 ((tree.all name).1 in_tree, (listed.representative, stands))) stands
 
-  -- so the rows' classes are all of them, in class order
+  -- the classes of the rows are all classes of the tree that aren't empty, in class order
   pub rows_are_listed : AreListed ground above (classes_of_rows rows)
   rows_are_listed =
       record {

@@ -4,33 +4,33 @@ use Rattle.dns_data.specs.Name.{Labels, name_eq}
 use Rattle.dns_data.proofs.Membership.{none_in_nil, has_first, has_later, first_or_later}
 use Rattle.dns_data.proofs.Names.{name_eq_decides}
 
--- it is so, or it isn't
+-- the statement holds, or it doesn't
 abbrev pub Decided : Type 0 → Type 0
 Decided P = P ⊎ (P → ⊥)
 
--- a test tells
+-- a statement that a test tells is decided
 pub by_test : {P : Type 0} (b : Bool) → (b ≡ true → P) → (P → b ≡ true) → Decided P
 by_test true there back = inl (there refl)
 by_test false there back = inr (λ p. true≢false (sym (back p)))
 
--- what means the same
+-- a statement that means the same as a decided one is decided
 pub turned : {P Q : Type 0} → (P → Q) → (Q → P) → Decided P → Decided Q
 turned there back (inl p) = inl (there p)
 turned there back (inr isnt) = inr (λ q. isnt (back q))
 
--- two things
+-- whether two decided statements hold is decided
 pub both : {P Q : Type 0} → Decided P → Decided Q → Decided (P × Q)
 both (inl p) (inl q) = inl (p, q)
 both (inl p) (inr isnt) = inr (λ pq. isnt pq.1)
 both (inr isnt) other = inr (λ pq. isnt pq.0)
 
--- one of two
+-- whether one of two decided statements holds is decided
 pub either : {P Q : Type 0} → Decided P → Decided Q → Decided (P ⊎ Q)
 either (inl p) other = inl (inl p)
 either (inr isnt) (inl q) = inl (inr q)
 either (inr isnt) (inr nor) = inr (λ some. elim some [ inl p ↦ isnt p | inr q ↦ nor q ])
 
--- that something isn't so
+-- whether a decided statement doesn't hold is decided
 pub not_so : {P : Type 0} → Decided P → Decided (P → ⊥)
 not_so (inl p) = inr (λ isnt. isnt p)
 not_so (inr isnt) = inl isnt
@@ -38,7 +38,7 @@ not_so (inr isnt) = inl isnt
 -- ---- items of a list
 
 module _ {X : Type 0} (P : X → Type 0) (decide : (x : X) → Decided (P x)) where
-  -- some item is so
+  -- whether some item of a list has a decided property is decided
   pub any_of : (xs : List X) → Decided ((x : X) × Contains xs x × P x)
   any_of [] = inr (λ some. none_in_nil some.0 some.1)
   any_of (x ∷ xs) = by (decide x) (any_of xs) where
@@ -51,7 +51,7 @@ module _ {X : Type 0} (P : X → Type 0) (decide : (x : X) → Decided (P x)) wh
           | inr later ↦ none (y, later, p)
         ])
 
-  -- the items that are so
+  -- a list has a list of its items with a decided property
   pub chosen : (xs : List X) → (ys : List X) × ((x : X) → Contains ys x ↔ (Contains xs x × P x))
   chosen [] = ([], λ x. ((λ has. absurd (none_in_nil x has)), (λ has. has.0)))
   chosen (x ∷ xs) = by (decide x) (chosen xs) where
@@ -81,11 +81,11 @@ module _ {X : Type 0} (P : X → Type 0) (decide : (x : X) → Decided (P x)) wh
       ),
     )
 
--- the list has the item
+-- whether a list has an item is decided, if equality of items is
 pub among : {X : Type 0} → ((a b : X) → Decided (a ≡ b)) → (xs : List X) (y : X) → Decided (Contains xs y)
 among same xs y =
     turned (λ (x, has, e). subst (Contains xs) e has) (λ has. (y, has, refl)) (any_of (λ x. x ≡ y) (λ x. same x y) xs)
 
--- two names are one
+-- whether two names are equal is decided
 pub same_name : (a b : Labels) → Decided (a ≡ b)
 same_name a b = by_test (name_eq a b) (name_eq_decides a b).0 (name_eq_decides a b).1

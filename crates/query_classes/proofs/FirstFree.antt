@@ -18,7 +18,7 @@ module _ (ground : Ground) (closed : IsClosed ground) (above : Labels) (live : L
   abbrev pub is_below : Labels → Labels → Bool
   is_below base name = name_eq name (base ++ last_of name ∷ [])
 
-  -- the names one label below, of the base names one label below a live one
+  -- the names one label below the name whose last label a base name one label below a live one has
   abbrev pub taken_at : ℕ → List Labels
   taken_at place = map (λ (name : Labels). above ++ last_of name ∷ []) (filter (is_below (name_at ground.names place)) ground.names)
 
@@ -26,7 +26,7 @@ module _ (ground : Ground) (closed : IsClosed ground) (above : Labels) (live : L
   abbrev pub taken : List Labels
   taken = flat_map taken_at live
 
-  -- they are named, and so taken
+  -- a name one label below that a live base name takes is named
   pub taken_named : (label : List ℕ) → Contains taken (above ++ label ∷ []) → IsNamed ground (above ++ label ∷ [])
   taken_named label has =
       let (place, among, at) = from_flat_map taken_at live (above ++ label ∷ []) has in
@@ -43,7 +43,7 @@ module _ (ground : Ground) (closed : IsClosed ground) (above : Labels) (live : L
       of_place : (place : ℕ) → Contains live place → place < length ground.names
       of_place place (k, within, is) = subst (λ (p : ℕ). p < length ground.names) is (of.within k place within)
 
-  -- and each label that makes a named name is taken
+  -- a name one label below that is named is taken by a live base name
   pub named_taken : (label : List ℕ) → IsNamed ground (above ++ label ∷ []) → Contains taken (above ++ label ∷ [])
   named_taken label named =
       let (base, (there, reads), has) = named_next ground closed above label named in
@@ -59,14 +59,14 @@ module _ (ground : Ground) (closed : IsClosed ground) (above : Labels) (live : L
       (map_has (λ (n : Labels). above ++ last_of n ∷ []) (filter (is_below (name_at ground.names place)) ground.names) name
       (filter_has (is_below (name_at ground.names place)) ground.names name has passes)))
 
-  -- each has one label more
+  -- each name that is taken is the name with one label below it
   pub taken_one : (name : Labels) → Contains taken name → (label : List ℕ) × (name ≡ above ++ label ∷ [])
   taken_one name has =
       let (place, among, at) = from_flat_map taken_at live name has in
       let (other, passes, same) = from_map (λ (n : Labels). above ++ last_of n ∷ []) (filter (is_below (name_at ground.names place)) ground.names) name at in
       (last_of other, sym same)
 
-  -- the labels that are free in these names are free
+  -- a name with a free label has a first one
   pub first_free : (label : List ℕ) → IsLabel label → (IsNamed ground (above ++ label ∷ []) → ⊥) → (first : List ℕ) × IsFirstUnnamed ground above first
   first_free label is unnamed =
       let names : Ground = record { names = taken; redirections = [] } in

@@ -9,7 +9,7 @@ use Rattle.net_model.proofs.TrialOrder.{trials_total}
 use Rattle.query_classes.specs.Trials.{IsLabelBehind}
 
 module _ {X : Type 0} (p q : X → Bool) (within : (x : X) → q x ≡ true → p x ≡ true) where
-  -- fewer pass the narrower test
+  -- no more items pass the narrower of two tests than the wider
   pub no_more : (xs : List X) → length (filter q xs) ≤ length (filter p xs)
   no_more [] = omega arith
   no_more (x ∷ xs) = by (q x) (p x) refl refl (no_more xs) where
@@ -20,7 +20,7 @@ module _ {X : Type 0} (p q : X → Bool) (within : (x : X) → q x ≡ true → 
     by false true e f le = omega arith
     by false false e f le = le
 
-  -- and fewer by one at least, where one passes the wider one alone
+  -- fewer items pass the narrower of two tests, if some item passes the wider one alone
   pub fewer : (xs : List X) (y : X) → Contains xs y → p y ≡ true → q y ≡ false → length (filter q xs) < length (filter p xs)
   fewer [] y has passes gone = absurd (none_in_nil y has)
   fewer (x ∷ xs) y has passes gone = by (q x) (p x) refl refl (no_more xs) (λ later. fewer xs y later passes gone) where
@@ -43,7 +43,7 @@ module _ {X : Type 0} (p q : X → Bool) (within : (x : X) → q x ≡ true → 
 abbrev pub last_of : Labels → List ℕ
 last_of name = get_or name (length name - 1) []
 
--- is its last label
+-- the last label of a name with a label below it is that label
 pub last_of_below : (above : Labels) (label : List ℕ) → last_of (above ++ label ∷ []) ≡ label
 last_of_below above label = get_or_at above label [] [] (length (above ++ label ∷ []) - 1) (sym (place above label)) where
   place : (above : Labels) (label : List ℕ) → length (above ++ label ∷ []) - 1 ≡ length above
@@ -53,11 +53,11 @@ last_of_below above label = get_or_at above label [] [] (length (above ++ label 
 abbrev pub is_not_before : List ℕ → Labels → Bool
 is_not_before label name = not (is_lt (trial_cmp (last_of name) label))
 
--- how many names are left whose last labels aren't tried before this one
+-- how many of the names have a last label that isn't tried before this one
 abbrev pub left : List Labels → List ℕ → ℕ
 left names label = length (filter (is_not_before label) names)
 
--- fewer are left behind a label that is taken
+-- behind a label that is taken fewer names are left
 pub fewer_left : (names : List Labels) (above : Labels) (label next : List ℕ) → Contains names (above ++ label ∷ []) → IsLabelBehind label next
     → left names next < left names label
 fewer_left names above label next has behind =

@@ -64,7 +64,7 @@ module _ (ground : Ground) (closed : IsClosed ground) where
   further front (label ∷ rest) lives =
       subst Lives (append_assoc front (label ∷ []) rest) (further (front ++ label ∷ []) rest (one_more front label lives))
 
-  -- so it has a live set
+  -- each name has a live set
   pub live_set_of : (name : Labels) → (places : List ℕ) × IsLiveSet ground name places
   live_set_of name = by (further [] name at_root) where
     same : (n : ℕ) → 0 + n ≡ n

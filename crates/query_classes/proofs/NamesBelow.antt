@@ -60,7 +60,7 @@ names_of_live above (next ∷ nexts) =
     before_others (nat_le (wire_octets (above ++ next.label ∷ [])) 255) (record { name = above ++ next.label ∷ []; live = next.live }) (live_below above nexts)
     (of_name_length above (map (λ (n : NextName). n.label) nexts)) (names_of_live above nexts)
 
--- each has its live set, where each label has
+-- each name one label below has its live set, if each label has
 pub all_live : (ground : Ground) (above : Labels) (nexts : List NextName) → All (λ next. IsLiveSet ground (above ++ next.label ∷ []) next.live) nexts
     → All (λ below. IsLiveSet ground below.name below.live) (live_below above nexts)
 all_live ground above nexts each =

@@ -50,7 +50,7 @@ module _ (ground : Ground) (closed : IsClosed ground) (live : (name : Labels) �
       let (class, of, stands) = class_from [] query (record { base = []; among = closed.names.root; reads = ([], refl) }) is in
       record { class = class; is = of; one = λ other also. one_class ground query class other of also; stands = stands }
 
--- and so in each ground with the same names and redirections
+-- a name that is in one class of a ground is in one class of each ground with the same names and redirections
 pub one_class_same : (one other : Ground) → AreSame one other → (query : Labels) → IsInOneClass one query → IsInOneClass other query
 one_class_same one other same query is =
     let of : IsClassOf other query is.class = class_same one other same query is.class is.is in

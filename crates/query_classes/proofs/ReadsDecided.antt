@@ -41,7 +41,7 @@ module _ (ground : Ground) (closed : IsClosed ground) where
       flat_map_has fronts_of ground.redirections redirection above given
       (prefixes_have redirection.target above (below ++ rest, sym (append_assoc above below rest) ∙ e))
 
-  -- the target of a redirection is among them
+  -- the target of each redirection is among the fronts of targets
   pub has_target : (redirection : Redirection) → Contains ground.redirections redirection → Contains fronts redirection.target
   has_target redirection given =
       flat_map_has fronts_of ground.redirections redirection redirection.target given

@@ -16,7 +16,7 @@ use Rattle.query_classes.specs.Children.{AreChildren, IsInTree, IsBelow}
 use Rattle.query_classes.specs.ClassList.{ListedClass, AreListed}
 use Rattle.query_classes.specs.Members.{IsEmptyClass, RepresentsClass}
 
--- the other way round
+-- if a ground has the names and redirections of another, the other has those of the one
 pub same_back : (one other : Ground) → AreSame one other → AreSame other one
 same_back one other same =
     record {
@@ -34,7 +34,7 @@ along_same one other more name (next ∷ between) last (once, rest) = (
 )
 
 module _ (one other : Ground) (same : AreSame one other) where
-  -- a named name
+  -- a name that a ground names is named by each ground with the same names and redirections
   pub named_same : (name : Labels) → IsNamed one name → IsNamed other name
   named_same name named =
       record {
@@ -46,23 +46,23 @@ module _ (one other : Ground) (same : AreSame one other) where
         );
       }
 
-  -- a closed ground
+  -- a ground with the names and redirections of a closed one is closed
   pub closed_same : IsClosed one → IsClosed other
   closed_same closed = base_closed other one (same_back one other same) closed
 
-  -- a name of the class tree
+  -- a name of the class tree of a ground is in that of each ground with the same names and redirections
   pub in_tree_same : (name : Labels) → IsInTree one name → IsInTree other name
   in_tree_same name (named, is) = (named_same name named, is)
 
-  -- and of the part of it at or below a name
+  -- a name of a part of the class tree of a ground is in that part for each ground with the same names and redirections
   pub in_part_same : (above name : Labels) → IsInPart one above name → IsInPart other above name
   in_part_same above name is = record { named = named_same name is.named; is_name = is.is_name; within = is.within }
 
--- a name that isn't named
+-- a name that a ground doesn't name isn't named by a ground with the same names and redirections
 pub unnamed_same : (one other : Ground) → AreSame one other → (name : Labels) → (IsNamed one name → ⊥) → IsNamed other name → ⊥
 unnamed_same one other same name unnamed named = unnamed (named_same other one (same_back one other same) name named)
 
--- the class of a name
+-- a name has the same class under grounds with the same names and redirections
 pub class_same : (one other : Ground) → AreSame one other → (name : Labels) (class : Class) → IsClassOf one name class → IsClassOf other name class
 class_same one other same name (Exact alone) is = (is.0, named_same one other same name is.1)
 class_same one other same name (Below above) (unnamed, longest) = (
@@ -75,7 +75,7 @@ class_same one other same name (Below above) (unnamed, longest) = (
   },
 )
 
--- the first label that makes an unnamed name
+-- the first label that makes an unnamed name is the same under grounds with the same names and redirections
 pub first_same : (one other : Ground) → AreSame one other → (above : Labels) (label : List ℕ) → IsFirstUnnamed one above label → IsFirstUnnamed other above label
 first_same one other same above label first =
     record {
@@ -84,17 +84,17 @@ first_same one other same above label first =
       first = λ before is less. named_same one other same _ (first.first before is less);
     }
 
--- the representative of a class
+-- a class has the same representative under grounds with the same names and redirections
 pub represents_same : (one other : Ground) → AreSame one other → (class : Class) (name : Labels) → IsRepresentative one class name → IsRepresentative other class name
 represents_same one other same (Exact alone) name is = is
 represents_same one other same (Below above) name stands =
     record { label = stands.label; first = first_same one other same above stands.label stands.first; extends = stands.extends; is_name = stands.is_name }
 
--- an empty class
+-- a class that is empty under a ground is empty under each ground with the same names and redirections
 pub empty_same : (one other : Ground) → AreSame one other → (class : Class) → IsEmptyClass one class → IsEmptyClass other class
 empty_same one other same class empty member is of = empty member is (class_same other one (same_back one other same) member class of)
 
--- the name that stands for a class
+-- the same name stands for a class under grounds with the same names and redirections
 pub stands_same : (one other : Ground) → AreSame one other → (class : Class) (name : Labels) → RepresentsClass one class name → RepresentsClass other class name
 stands_same one other same class name stands =
     record {
@@ -104,12 +104,12 @@ stands_same one other same class name stands =
       shortest = λ member is of. stands.shortest member is (class_same other one (same_back one other same) member class of);
     }
 
--- what stands for the class below a name
+-- the same name, or none, stands for the class below a name under grounds with the same names and redirections
 pub below_same : (one other : Ground) → AreSame one other → (name : Labels) (found : Option Labels) → IsBelow one name found → IsBelow other name found
 below_same one other same name None empty = empty_same one other same (Below name) empty
 below_same one other same name (Some below) stands = stands_same one other same (Below name) below stands
 
--- the names of the class tree one label below a name
+-- a name has the same children under grounds with the same names and redirections
 pub children_same : (one other : Ground) → AreSame one other → (above : Labels) (names : List Labels) → AreChildren one above names → AreChildren other above names
 children_same one other same above names are =
     record {
@@ -120,7 +120,7 @@ children_same one other same above names are =
       );
     }
 
--- the classes that aren't empty
+-- the same classes are listed under grounds with the same names and redirections
 pub listed_same : (one other : Ground) → AreSame one other → (above : Labels) (classes : List ListedClass) → AreListed one above classes → AreListed other above classes
 listed_same one other same above classes are =
     record {
@@ -138,7 +138,7 @@ listed_same one other same above classes are =
       );
     }
 
--- more names of a part of the class tree than so many
+-- a part of the class tree has more names than so many under each ground with the same names and redirections
 pub more_same : (one other : Ground) → AreSame one other → (above : Labels) (most : ℕ) → HasMoreThan (IsInPart one above) most → HasMoreThan (IsInPart other above) most
 more_same one other same above most =
     more_images (IsInPart one above) (IsInPart other above) most (λ name. name) (in_part_same one other same above) (λ a b is also e. e)

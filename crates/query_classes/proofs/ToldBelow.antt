@@ -17,7 +17,7 @@ told_one_below : (told : Labels → Type 0) (above name : Labels) → IsOneBelow
 told_one_below told above name (label, is) all below inside =
     all below (is_prefix_told above below (prefix_of_prefix above name below (label ∷ [], sym is) (is_prefix_tells name below inside)))
 
--- so the children of a name are names of the tree with what is told
+-- the children of a name of the tree are names of the tree, and what is told of all names below it holds below each
 pub children_told : (ground graph : Ground) → AreBaseNamesOf ground graph → (told : Labels → Type 0) (all_told : Bool) (above : Labels)
     → (all_told ≡ true → IsToldBelow told above) → (found : List LiveName) → AreChildren graph above (map (λ one. one.name) found)
     → All (λ one. IsLiveSet graph one.name one.live) found → All (IsTreeName ground told all_told) found

@@ -25,7 +25,7 @@ use Rattle.verdict_book.specs.Items.{ParentsApart, IsChildAt, IsItemPath, Reache
 pub children_of : (ground : Ground) → IsClosed ground → Labels → List Labels
 children_of ground closed name = (children_exist ground closed name (live_set_of ground closed name).0 (live_set_of ground closed name).1).0
 
--- are those
+-- the listed children of a name are the names of the class tree one label below it, in order
 pub children_are : (ground : Ground) (closed : IsClosed ground) (name : Labels) → AreChildren ground name (children_of ground closed name)
 unfolding children_of
 children_are ground closed name = (children_exist ground closed name (live_set_of ground closed name).0 (live_set_of ground closed name).1).1
@@ -59,7 +59,7 @@ module _ (ground : Ground) (first : Labels) (children : Labels → List Labels) 
       let (below, e) = chain_begins next path to chain in
       (label ∷ below, sym (append_assoc from (label ∷ []) below) ∙ ap (λ (n : Labels). n ++ below) (sym is) ∙ e)
 
-  -- so none is a child of two, or twice of one, and the first is a child of none
+  -- no name is a child of two, or twice of one, and the first is a child of none
   pub parents_apart : ParentsApart first children
   parents_apart =
       record {
@@ -115,7 +115,7 @@ module _ (ground : Ground) (first : Labels) (children : Labels → List Labels) 
           ),
         )
 
-    -- and what is in its part is reached
+    -- each name of the part of the tree at or below the first is reached
     pub part_reached : (name : Labels) → IsInPart ground first name → Reached first children name
     part_reached name is =
         let (below, e) = is_prefix_tells first name is.within in

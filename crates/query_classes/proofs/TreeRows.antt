@@ -79,7 +79,7 @@ module _ (ground : Ground) (closed : IsClosed ground) (rows : List ClassRow)
         some None empty = absurd (not_empty_below ground closed above (in_tree above has) name stands empty)
         some (Some below) is = has_first above []
 
-    -- so they are the names of the rows below which there is a class
+    -- the names of the rows with a representative below are the names below which there is a class
     pub below_classes : AreBelowClasses ground (tree_names rows) (below_names rows)
     below_classes =
         record {
@@ -98,7 +98,7 @@ pub record AreRowsOf (ground : Ground) (from : Labels) (most : ℕ) (rows : List
   pub few : length rows ≤ most
   pub none_more : HasMoreThan (IsInPart ground from) most → ⊥
 
--- it holds of those that are passed where none waits
+-- if no name waits, the rows passed are those of the part of the class tree
 pub rows_walked : (ground : Ground) → IsClosed ground → (from : Labels) (most : ℕ) (rows : List ClassRow)
     → AreWalked ground from (tree_names rows) [] → All (λ row. IsBelow ground row.name row.below) rows → length rows ≤ most
     → AreRowsOf ground from most rows
@@ -129,13 +129,13 @@ map_reverse {Y = Y} f (x ∷ xs) =
     ap (map f) (reverse_first x xs) ∙ map-append f (reverse xs) (x ∷ [])
     ∙ ap (λ (l : List Y). l ++ f x ∷ []) (map_reverse f xs) ∙ sym (reverse_first (f x) (map f xs))
 
--- the last one that waits
+-- the walk of a class tree stands as before when the last name that waits is taken off
 pub last_waits : (ground : Ground) (from : Labels) (passed : List Labels) (waiting left : List LiveName) (next : LiveName) → waiting ≡ left ++ next ∷ []
     → AreWalked ground from passed (names_of waiting) → AreWalked ground from passed (names_of left ++ next.name ∷ [])
 last_waits ground from passed waiting left next is =
     subst (AreWalked ground from passed) (ap names_of is ∙ map-append (λ (one : LiveName). one.name) left (next ∷ []))
 
--- with the names below it in its place
+-- the walk goes on with the row of a name passed and the names one label below it waiting
 pub walk_further : (ground : Ground) → IsClosed ground → (from : Labels) (rows : List ClassRow) (left below : List LiveName) (next : LiveName) (row : ClassRow)
     → row.name ≡ next.name → AreWalked ground from (tree_names rows) (names_of left ++ next.name ∷ []) → AreChildren ground next.name (names_of below)
     → AreWalked ground from (tree_names (rows ++ row ∷ [])) (names_of (left ++ reverse below))

@@ -86,7 +86,7 @@ reverse_has {X} (y ∷ xs) x has =
       | inr later ↦ Contains-append_left (reverse xs) (y ∷ []) x (reverse_has xs x later)
     ])
 
--- and no others
+-- a list turned round has no items but those of the list
 pub from_reverse : {X : Type 0} (xs : List X) (x : X) → Contains (reverse xs) x → Contains xs x
 from_reverse [] x has = absurd (none_in_nil x has)
 from_reverse {X} (y ∷ xs) x has =
@@ -159,7 +159,7 @@ module _ (ground : Ground) (closed : IsClosed ground) (from : Labels) where
         all = λ name in_part. inr (from, has_first from [], is_prefix_tells from name in_part.within);
       }
 
-  -- at or below a name that isn't named there is none
+  -- at or below a name that isn't named the class tree has no name
   pub walk_of_none : (IsNamed ground from → ⊥) → AreWalked ground from [] []
   walk_of_none unnamed =
       record {
@@ -177,7 +177,7 @@ module _ (ground : Ground) (closed : IsClosed ground) (from : Labels) where
     next_waits : Contains (waiting ++ next ∷ []) next
     next_waits = Contains-append_right waiting (next ∷ []) next (has_first next [])
 
-    -- so it is in the part
+    -- the next name that waits is in the part of the class tree
     pub next_in_part : IsInPart ground from next
     next_in_part = walked.waits_in_part next next_waits
 
@@ -193,7 +193,7 @@ module _ (ground : Ground) (closed : IsClosed ground) (from : Labels) where
           | inr new ↦ subst (IsInPart ground from) (only next name new) next_in_part
         ]
 
-    -- with the names below it in its place
+    -- the walk goes on with the names one label below the next name in its place
     pub walk_on : (below : List Labels) → AreChildren ground next below → AreWalked ground from (passed ++ next ∷ []) (waiting ++ reverse below)
     walk_on below children =
         record {
@@ -274,7 +274,7 @@ module _ (ground : Ground) (closed : IsClosed ground) (from : Labels) where
           each = recursion_from_All (IsInPart ground from) (passed ++ next ∷ []) (all_from_contains (IsInPart ground from) (passed ++ next ∷ []) in_part_more);
         }
 
-  -- where none waits the part is passed
+  -- if no name waits, the names passed are the part of the class tree
   pub walk_ends : (passed : List Labels) → AreWalked ground from passed [] → IsTreePart ground from passed
   walk_ends passed walked =
       record {

@@ -142,7 +142,7 @@ not_longer a b longer less =
     sym (ap (λ (o : Ordering). ordering_then o (by_octets a b)) (sym (nat_cmp_is (length a) (length b) Greater longer))) ∙ less in
     cc
 
--- all labels are the one of most octets 255, or tried before it
+-- each label is the one of 63 octets 255, or is tried before it
 pub last_label_of_all : (label : List ℕ) → length label ≡ 63 → label ≡ replicate 63 255 → (other : List ℕ) → IsLabel other
     → (other ≡ label) ⊎ (trial_cmp other label ≡ Less)
 last_label_of_all label size all other is =
@@ -157,7 +157,7 @@ last_label_of_all label size all other is =
           ])
     ]
 
--- behind a label of octets 255 comes one with one letter more
+-- behind a label of octets 255 comes the label of one letter more
 pub grown_behind : (label next : List ℕ) (n : ℕ) → length label ≡ n → label ≡ replicate n 255 → next ≡ replicate (n + 1) 97 → IsLabel next → IsLabelBehind label next
 grown_behind label next n size all letters is =
     let long : length next ≡ n + 1 = ap (λ (l : List ℕ). length l) letters ∙ length-replicate (n + 1) 97 in
@@ -184,7 +184,8 @@ grown_behind label next n size all letters is =
       ];
     }
 
--- behind another label comes the raised one
+-- behind a label with an octet below 255 comes the one in which the last such octet is raised and those behind it begin
+-- anew
 pub raised_is_behind : (label next front : List ℕ) (octet raised k : ℕ) → label ≡ front ++ octet ∷ replicate k 255 → next ≡ front ++ raised ∷ replicate k 97
     → IsOctetBehind octet raised → IsLabel next → IsLabelBehind label next
 raised_is_behind label next front octet raised k is next_is up label_next =
@@ -219,7 +220,7 @@ no_less n = omega arith
 one_more : (n : ℕ) → suc n ≡ n + 1
 one_more n = omega arith
 
--- octets whose places are told are those of a label and the one behind it
+-- the octets that are tried next are those of the label behind the label
 pub next_is_behind : (label next : List ℕ) (place : ℕ) → IsLastBut label place → AreNextOctets label place next → IsLabel next → IsLabelBehind label next
 next_is_behind label next zero last are is = grown_behind label next (length label) refl
     (last.last ∙ ap (λ (n : ℕ). replicate n 255) (no_less (length label))) are is
@@ -244,7 +245,7 @@ front_octets (suc n) (octet ∷ label) each =
     let parts = and_parts (is_label_octet octet) (list_all is_label_octet label) each in
     and_from (is_label_octet octet) (list_all is_label_octet (take n label)) parts.0 (front_octets n label parts.1)
 
--- the label that is tried next is one
+-- the octets that are tried next are a label
 pub next_is_label : (label next : List ℕ) (place : ℕ) → IsLabel label → (place ≡ 0 → length label ≡ 63 → ⊥) → place ≤ length label
     → AreNextOctets label place next → IsLabel next
 next_is_label label next zero is room within are =
@@ -271,7 +272,7 @@ next_is_label label next (suc place) is room within (raised, up, are) =
           ∙ and_from _ _ (front_octets place label is.octets) (and_from _ _ up.is_octet (letters k)));
     }
 
--- nothing is tried before a
+-- no label is tried before the label a
 pub none_before_a : (other : List ℕ) → IsLabel other → trial_cmp other (97 ∷ []) ≡ Less → ⊥
 none_before_a other is less =
     elim (cases_lt 1 (length other)) [
@@ -282,6 +283,6 @@ none_before_a other is less =
           none_first 1 other one (sym (same_length other (97 ∷ []) one) ∙ less))
     ]
 
--- and a is a label
+-- the label a is a label
 pub a_is_label : IsLabel (97 ∷ [])
 a_is_label = record { not_empty = omega arith; short = omega arith; octets = refl }

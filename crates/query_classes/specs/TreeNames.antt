@@ -11,15 +11,15 @@ pub record AreBaseNamesOf (basis graph : Ground) : Type 0 where
   pub same : AreSame graph basis
   pub order : AreInOrder graph.names
 
--- the places are the live set of the name in each such graph
+-- the places are the live set of the name in each ground of the same names and redirections whose names are in order
 abbrev pub IsLiveIn : Ground → Labels → List ℕ → Type 0
 IsLiveIn basis name places = (graph : Ground) → AreBaseNamesOf basis graph → IsLiveSet graph name places
 
--- it is told of each name at or below this one
+-- what is told holds of each name at or below this one
 abbrev pub IsToldBelow : (Labels → Type 0) → Labels → Type 0
 IsToldBelow told above = (name : Labels) → is_prefix above name ≡ true → told name
 
--- the name has its live set, and where it is said so it is told of each name at or below it
+-- the name has its live set, and if all is told, what is told holds of each name at or below it
 pub record IsTreeName (basis : Ground) (told : Labels → Type 0) (all_told : Bool) (found : LiveName) : Type 0 where
   pub live : IsLiveIn basis found.name found.live
   pub told_below : all_told ≡ true → IsToldBelow told found.name

@@ -45,7 +45,7 @@ of_state state = of_place state.last
 abbrev of_walk : Walk → List Fault
 of_walk walk = flat_map of_hop walk.hops ++ (of_leaf walk.leaf ++ flat_map of_state walk.states)
 
--- those of walks of a query of this class with this type
+-- the faults that walks of a query of this class with this type may show, without asking the zones
 abbrev pub candidates : Class → RrType → List Walk → List Fault
 candidates class rtype walks = faults.Answers class rtype ∷ flat_map of_walk walks
 
@@ -95,7 +95,7 @@ module _ (config : Config) (query : Labels) (of : IsInOneClass (ground_of config
   candidate_of_one fault walk has take =
       has_later (faults.Answers of.class rtype) (flat_map of_walk walks) fault (flat_map_has of_walk walks walk fault has (of_one walk fault take))
 
-  -- and what two of them show
+  -- what two of a query's walks show is a candidate
   pub candidate_of_two : (fault : Fault) (one other : Walk) → MayShow config query rtype fault → WalksTake (one ∷ other ∷ []) fault → Contains (candidates of.class rtype walks) fault
   candidate_of_two (faults.Answers class shown_with) one other (same, is) take =
       subst (Contains (candidates of.class rtype walks))

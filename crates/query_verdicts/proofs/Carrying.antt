@@ -29,7 +29,7 @@ module _ (subject : Subject) (covering : IsCovering subject) where
       class_at_or_below subject.ground subject.below below class covering.in_tree.0 (subst (λ (n : Labels). IsClassOf subject.ground n class) (sym e) of) in
       is_prefix_told subject.below (class_name class) (rest, sym is)
 
-  -- so it is one of the tree
+  -- the class of a query at or below the subject's name is one of the subject's tree
   pub class_of_name : (class : Class) (query : Labels) → IsName query → is_prefix subject.below query ≡ true → IsClassOf subject.ground query class
       → IsClass subject class
   class_of_name class query is within of =

@@ -37,7 +37,7 @@ use Rattle.query_verdicts.proofs.AllKinds.{all_kinds}
 -- ---- the faults of a class
 
 module _ (config : Config) (rewrites states : ℕ) where
-  -- where the name of some server passes, nothing is looked for
+  -- if the name of some server reaches too many pairs, no fault is looked for
   pub none_sought : SomeServerPasses config rewrites states → (query : Labels) → AreFaultsOf config rewrites states query []
   none_sought passes query = record { none_sought = λ some. refl; sought = λ clear. absurd (clear passes) }
 
@@ -55,7 +55,8 @@ module _ (config : Config) (rewrites states : ℕ) where
   pub some_name : (name : Labels) → IsFirstServerPassed config rewrites states name → SomeNamePasses config rewrites states
   some_name name is = (name, among name is, (is.is_name, is.passes))
 
-  -- else what is shown with the least set in force
+  -- if no server's name reaches too many pairs, the faults of a query are those that it shows with the least set in
+  -- force
   pub all_sought : (deps : Deps) → AreSets config rewrites states deps → (query : Labels) (shown : List Seen)
       → AreShownOf (with_sets (following config rewrites deps.least)) query (λ fault. true) shown → AreFaultsOf config rewrites states query shown
   all_sought deps sets query shown are =
@@ -73,7 +74,8 @@ module _ (config : Config) (rewrites states : ℕ) where
   graph_for followed query class graph is exact stands =
       record { is_graph = is; exact = exact; of_class = stands.of_class; represents_it = ((λ e. stands.represents), (λ represents. refl)) }
 
-  -- so is it of a query whose class was asked of a graph of the configuration's own names
+  -- the graph of a query whose class was asked of the configuration's own base names is the graph for the query and its
+  -- class
   pub graph_asked : (followed : List Labels) (query : Labels) (class : Class) (answer : Bool) (graph : PlainGraph) → IsGraphOf (following config rewrites followed) query graph
       → IsExactIn (following config rewrites followed) query graph → (names : Ground) → AreBaseNamesOf (ground_of config) names
       → IsClassOf names query class → ((answer ≡ true) ↔ IsRepresentative names class query)
@@ -89,7 +91,7 @@ module _ (config : Config) (rewrites states : ℕ) where
         );
       }
 
-  -- both kinds together
+  -- the faults of rewrites and the faults of delegations together are the faults that the query shows
   pub both_kinds : (followed least greatest : List Labels) → IsLeast config rewrites least → IsGreatest config rewrites greatest → (query : Labels)
       → (of_rewrites of_delegations shown : List Seen)
       → AreShownOf (with_sets (following config rewrites followed)) query is_of_rewrites of_rewrites
@@ -109,10 +111,10 @@ represents_below ground names are closed above in_tree None empty =
     λ query represents. not_empty_below ground closed above in_tree query represents (below_same names ground are.same above None empty)
 represents_below ground names are closed above in_tree (Some query) stands = below_same names ground are.same above (Some query) stands
 
--- it is of the class, and its representative
+-- a query that represents the class below a name is of that class, and its representative
 pub stands_below : (ground : Ground) (above query : Labels) → RepresentsClass ground (Below above) query → StandsFor ground (Below above) query
 stands_below ground above query stands = record { of_class = stands.is_member; represents = stands.represents }
 
--- and a named name is of the class of itself alone
+-- a named name is of the class of itself alone, and its representative
 pub stands_alone : (ground : Ground) (name : Labels) → IsNamed ground name → StandsFor ground (Exact name) name
 stands_alone ground name named = record { of_class = (refl, named); represents = refl }

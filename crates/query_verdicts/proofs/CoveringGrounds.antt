@@ -15,21 +15,21 @@ use Rattle.query_classes.specs.Members.{IsInOneClass}
 use Rattle.query_classes.proofs.LiveSetsExist.{live_set_of}
 use Rattle.query_classes.proofs.Partition.{in_one_class}
 
--- it has the root, the prefixes of its names and the owners of its redirections
+-- a ground that covers a configuration has the root, the prefixes of its names and the owners of its redirections
 pub is_closed : (config : Config) (ground : Ground) → Covers ground config → IsClosed ground
 is_closed config ground covers =
     record { names = record { root = covers.root; prefixes = covers.prefixes }; redirected = covers.redirected }
 
--- the root is in its class tree
+-- the root is in the class tree of a ground that covers a configuration
 pub root_in_tree : (config : Config) (ground : Ground) → Covers ground config → IsInTree ground []
 root_in_tree config ground covers = (record { base = []; among = covers.root; reads = ([], refl) }, root_is_name)
 
--- each name is in one class of it
+-- each name is in one class of a ground that covers a configuration
 pub in_class : (config : Config) (ground : Ground) → Covers ground config → (query : Labels) → IsName query → IsInOneClass ground query
 in_class config ground covers query is =
     let closed : IsClosed ground = is_closed config ground covers in in_one_class ground closed (live_set_of ground closed) query is
 
--- and so of the configuration's own
+-- each name is in one class of a configuration's own ground
 pub in_own_class : (config : Config) (query : Labels) → IsName query → IsInOneClass (ground_of config) query
 in_own_class config = in_class config (ground_of config) (own_covers config)
 

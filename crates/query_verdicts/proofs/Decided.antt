@@ -20,7 +20,7 @@ use Rattle.net_model.specs.declared.walk.State.{State}
 use Rattle.net_model.proofs.FaultOrder.{one_type}
 
 module _ {X : Type 0} (P : X → Type 0) (decide : (x : X) → Decided (P x)) where
-  -- the list ends with an item that is so
+  -- the list ends with an item that has the property
   abbrev pub EndsSo : List X → Type 0
   EndsSo xs = (before : List X) × (last : X) × (xs ≡ before ++ last ∷ []) × P last
 

@@ -28,7 +28,7 @@ use Rattle.graph_form.proofs.Verdicts.{one_entry}
 
 -- ---- all walks of a query
 
--- these are its walks, in any order
+-- the list has all walks of the query with the type, in any order
 pub record HasWalks (setting : Setting) (query : Labels) (rtype : RrType) (walks : List Walk) : Type 0 where
   pub each : (walk : Walk) → Contains walks walk → IsWalk setting query rtype walk
   pub all : (walk : Walk) → IsWalk setting query rtype walk → Contains walks walk

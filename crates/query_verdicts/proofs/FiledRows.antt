@@ -44,7 +44,7 @@ module _ {W C : Type 0} {ground : Ground} {above : Labels} {IsTold : Labels → 
       let judged : row.verdict ≡ verdict_of row.item = All-contains (Judges verdict_of) filed row tree.verdicts has in
       subst (IsVerdictAt ground IsTold row.item) (sym judged) (values.verdicts row.item (item_in_part row.item (map_has item filed row has)).is_name)
 
-  -- so it is the rows of the tree
+  -- what is filed in a whole work are the rows of the class tree
   pub rows_of_whole : AreTreeRows ground above IsTold filed
   rows_of_whole =
       record {

@@ -115,7 +115,7 @@ put x (y ∷ ys) rises = by (fault_cmp x.fault y.fault) refl (put x ys (pairs_re
       ]
   by Greater e (more, is) = (y ∷ more, put_behind x y ys rises e more is)
 
--- of each list of faults seen there are the first types
+-- each list of faults that were seen has the faults with their first types
 pub first_types_exist : (all : List Seen) → (first : List Seen) × AreFirstTypes all first
 first_types_exist [] = ([], none_yet)
 first_types_exist (x ∷ all) =

@@ -19,7 +19,7 @@ use Rattle.net_model.specs.Step.{Setting, following}
 use Rattle.net_model.specs.Walk.{IsWalk, walk_along}
 use Rattle.net_model.proofs.InForce.{one_in_force}
 
--- these are the first walk, or the first pair of walks, of the query that show the fault with the type
+-- the walks are the first walk, or the first pair of walks, of the query that show the fault with the type
 pub record AreFirstWalks (setting : Setting) (query : Labels) (rtype : RrType) (fault : Fault) (walks : List Walk) : Type 0 where
   pub paths : List (List ℕ)
   pub show : PathsShow setting query rtype fault paths walks

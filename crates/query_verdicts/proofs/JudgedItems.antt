@@ -17,12 +17,12 @@ module _ {C : Type 0} {ground : Ground} {IsTold : Labels → C → Type 0} {chil
   item_in_tree first in_tree reached =
       let part = reached_in_part ground first children values.children in_tree item reached in (part.named, part.is_name)
 
-  -- its verdict is the picked one
+  -- the verdict of an item is the picked one
   pub verdict_picked : ((query : Labels) (a b : C) → IsTold query a → IsTold query b → a ≡ b) → IsInTree ground item
       → (verdict : NameVerdict C) → IsVerdictAt ground IsTold item verdict → verdict ≡ verdict_of item
   verdict_picked one_told in_tree verdict is =
       one_name_verdict ground IsTold one_told item verdict (verdict_of item) is (values.verdicts item in_tree.1)
 
-  -- and its children are the picked ones
+  -- the children of an item are the picked ones
   pub children_picked : (names : List Labels) → AreChildren ground item names → names ≡ children item
   children_picked names are = one_children ground item names (children item) are (values.children item)

@@ -11,7 +11,7 @@ use Rattle.net_model.proofs.FaultOrder.{classes_total, one_class}
 use Rattle.net_model.proofs.TrialOrder.{one_representative}
 use Rattle.query_verdicts.specs.Passed.{IsFirstPassed}
 
--- the first item of a kind is one
+-- the first items of a kind in equal lists are equal
 pub first_of_kind : {X : Type 0} (P : X → Type 0) (before behind others rest : List X) (x y : X) → before ++ x ∷ behind ≡ others ++ y ∷ rest
     → ((z : X) → Contains before z → P z → ⊥) → ((z : X) → Contains others z → P z → ⊥) → P x → P y → x ≡ y
 first_of_kind P [] behind [] rest x y e none also one other = cc
@@ -26,7 +26,7 @@ first_of_kind P (z ∷ before) behind (w ∷ others) rest x y e none also one ot
     first_of_kind P before behind others rest x y later
     (λ v has. none v (has_later z before v has)) (λ v has. also v (has_later w others v has)) one other
 
--- the first representative in class order that reaches too many pairs is one
+-- two first representatives in class order that reach too many pairs are equal
 pub one_passed : (subject : Subject) (states : ℕ) (a b : Labels) → IsFirstPassed subject states a → IsFirstPassed subject states b → a ≡ b
 one_passed subject states a b p q =
     let class : p.class ≡ q.class =

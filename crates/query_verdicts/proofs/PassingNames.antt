@@ -53,6 +53,6 @@ module _ (config : Config) (rewrites states : ℕ) (ground : Ground) (covers : C
           },
         )
 
-  -- so where a server's name passes, some class does
+  -- if a server's name reaches too many pairs, the representative of some class does
   pub class_passes : SomeNamePasses config rewrites states → SomeClassPasses (at_all_names config rewrites ground) states
   class_passes (name, has, (is, passes)) = name_passes name is passes

@@ -41,6 +41,8 @@ module _ (ground : Ground) (config : Config) (covers : Covers ground config) whe
         (query, stands.represents, subst (λ (name : Labels). IsTold name told) (sym whole) (below tail is))
     by_representative (Some query) stands false e = cc
 
+    -- if one thing is told of the name with each unnamed tail, it is the verdict of the class below the name, if that class
+    -- has a representative
     pub told_below : (names : Ground) → AreBaseNamesOf ground names → (some : Bool) → HasBelow names above some
         → IsVerdictBelow ground IsTold above (cond some (Some told) None)
     told_below names are some has =
@@ -49,10 +51,11 @@ module _ (ground : Ground) (config : Config) (covers : Covers ground config) whe
 -- ---- all names at or below a name
 
 module _ (IsTold : Labels → Type 0) (above : Labels) (all : IsToldBelow IsTold above) where
-  -- it is one, and so it is with each tail
+  -- what is told of all names at or below a name is told of the name itself
   pub told_itself : IsTold above
   told_itself = all above (begins_itself above)
 
+  -- what is told of all names at or below a name is told of it with each tail
   pub told_with_tail : (tail : Labels) → IsTold (above ++ tail)
   told_with_tail tail = all (above ++ tail) (is_prefix_told above (above ++ tail) (tail, refl))
 

@@ -44,7 +44,7 @@ module _ (subject : Subject) (found : ClassFault) (right : IsRightFound subject 
   pub fault_shown : GraphShows walked.graph found.seen.rtype found.seen.fault
   fault_shown = graph_shows setting walked.query found.seen.rtype walked.graph is.of_query.is_graph found.seen.fault shows
 
-  -- with its first walks it is the entry
+  -- the fault with the first walks that show it is the report's entry
   pub is_entry : (repeated : Bool) (walks : List Walk) → AreFirst walked.graph found.seen.rtype found.seen.fault walks
       → ((first : Walk) → slice_get walks 0 ≡ Some first → repeated ≡ repeats first.states)
       → IsEntryOf subject found (record { seen = found.seen; query = walked.query; repeats = repeated; walks = walks })
@@ -69,7 +69,7 @@ module _ (subject : Subject) (found : ClassFault) (right : IsRightFound subject 
 
 -- ---- the entries
 
--- of what was passed over these are the entries
+-- the entries are those of the faults passed so far, and these faults are left
 pub record IsListing (subject : Subject) (all left : List ClassFault) (entries : List ReportEntry) : Type 0 where
   pub done : List ClassFault
   pub is : all ≡ done ++ left
@@ -88,7 +88,7 @@ module _ (subject : Subject) (all left rest : List ClassFault) (found : ClassFau
             (beside_pushed (IsEntryOf subject) listing.done entries found entry listing.are is);
       }
 
-  -- the next is one of them
+  -- the next of the faults that are left is one that its class shows
   pub next_right : All (IsRightFound subject) all → IsRightFound subject found
   next_right right =
       All-contains (IsRightFound subject) all found right

@@ -106,11 +106,11 @@ module _ (subject : Subject) (states : ℕ) where
     is_of_tree : (class : Class) (query : Labels) → ClassPasses subject states class query → IsClass subject class
     is_of_tree class query it = it.is_class
 
-    -- where none of any name passes, none does
+    -- if no representative of the classes of any row's name reaches too many pairs, none of the subject's classes does
     pub none_of_rows : ((k : ℕ) (d : TreeRow W ClassVerdict) → k < length rows → NonePassesAt subject states (get_or rows k d).item) → SomeClassPasses subject states → ⊥
     none_of_rows none (class, query, it) = none_in_rows rows are (ClassPasses subject states) is_of_tree none class query it
 
-    -- the first of the first name is the first
+    -- the first representative that reaches too many pairs at the first row's name that has one is the first of all
     pub first_of_rows : (i : ℕ) (e : TreeRow W ClassVerdict) → i < length rows
         → ((k : ℕ) (d : TreeRow W ClassVerdict) → k < i → NonePassesAt subject states (get_or rows k d).item)
         → (query : Labels) → IsFirstPassedAt subject states (get_or rows i e).item query → IsFirstPassed subject states query

@@ -16,6 +16,7 @@ use Rattle.interp_graph.proofs.ItemsByNumber.{from_mapped}
 use Rattle.verdict_book.specs.Items.{NoneTwice}
 
 module _ {X K : Type 0} (key : X → K) (cmp : K → K → Ordering) (total : IsTotalOrder cmp) (exact : CmpEqualImpliesEq cmp) (xs : List X) where
+  -- the key of each item is less than those of all later items
   abbrev pub Rises : Type 0
   Rises = AllPairs (λ a b. cmp (key a) (key b) ≡ Less) xs
 
@@ -59,7 +60,7 @@ module _ {X K : Type 0} (key : X → K) (cmp : K → K → Ordering) (total : Is
           let tie : cmp one one ≡ Equal = tied_itself total one in
           cc
 
-  -- so an item is told by its key
+  -- items that rise by their keys are equal if their keys are
   pub one_item : Rises → (a b : X) → Contains xs a → Contains xs b → key a ≡ key b → a ≡ b
   one_item rising a b (i, i_within, a_is) (j, j_within, b_is) same =
       let equal : i ≡ j =

@@ -24,7 +24,7 @@ behind_not_before : (other class : Class) → name_cmp (class_name class) (class
 behind_not_before other class rising less =
     never_before_itself class_cmp classes_total class (classes_total.trans class other class (by_names class other rising) less)
 
--- of the classes of a name that of the name alone is the first
+-- the class of a name alone is the first of the name's classes
 pub exact_first : (name : Labels) (other : Class) → class_name other ≡ name → class_cmp other (Exact name) ≢ Less
 exact_first name (Exact alone) of_name less = never_before_itself name_cmp names_total name (subst (λ (n : Labels). name_cmp n name ≡ Less) of_name less)
 exact_first name (Below above) of_name less =
@@ -64,14 +64,14 @@ module _ {W C X : Type 0} {ground : Ground} {above : Labels} {IsTold : Labels �
       from_map (λ (r : TreeRow W C). r.item) rows (class_name class) ((are.tree.all (class_name class)).1 (in_part class x is_kind)) in
       (row, k, within, λ d. ap (λ (r : TreeRow W C). r.item) (get_or_default rows k d row within ∙ is) ∙ same)
 
-  -- where no class of any name is one, none is
+  -- if no class of any row's name is of the kind, no class of the tree is
   pub none_in_rows : ((k : ℕ) (d : TreeRow W C) → k < length rows → (class : Class) (x : X) → class_name class ≡ (get_or rows k d).item → IsKind class x → ⊥)
       → (class : Class) (x : X) → IsKind class x → ⊥
   none_in_rows none class x is_kind =
       let (row, k, within, is) = row_at class x is_kind in
       none k row within class x (sym (is row)) is_kind
 
-  -- the first of the first name that has one is the first of all
+  -- the first class of a kind at the first row's name that has one is the first of all
   pub first_in_rows : (i : ℕ) (e : TreeRow W C) → i < length rows
       → ((k : ℕ) (d : TreeRow W C) → k < i → (class : Class) (x : X) → class_name class ≡ (get_or rows k d).item → IsKind class x → ⊥)
       → (first : Class) → class_name first ≡ (get_or rows i e).item

@@ -17,7 +17,7 @@ module _ (config : Config) (rewrites states : ℕ) where
   abbrev IsTold : Server → AddressTold → Type 0
   IsTold server told = IsToldOf config rewrites server.name told
 
-  -- this is told of these servers' names, none of which passes
+  -- for each of these servers something is told of its name, and none of the names reaches too many pairs
   pub record AreSoFar (servers : List Server) (told : List AddressTold) : Type 0 where
     pub beside : AllZip IsTold servers told
     pub few : (server : Server) → Contains servers server → PassesStates config rewrites states server.name → ⊥
@@ -26,7 +26,7 @@ module _ (config : Config) (rewrites states : ℕ) where
   pub none_so_far : AreSoFar [] []
   none_so_far = record { beside = tt; few = λ server has. absurd (none_in_nil server has) }
 
-  -- when it is told of the next server's name, which doesn't pass the limit, it is told of the servers up to it
+  -- if something is told of the next server's name, which doesn't reach too many pairs, the servers up to it are told
   pub one_more_told : (servers : List Server) (i : ℕ) (told : List AddressTold) (server : Server) (one : AddressTold) → i < length servers
       → get_or servers i server ≡ server → AreSoFar (take i servers) told → IsToldOf config rewrites server.name one
       → (PassesStates config rewrites states server.name → ⊥) → AreSoFar (take (i + 1) servers) (told ++ one ∷ [])
@@ -43,7 +43,7 @@ module _ (config : Config) (rewrites states : ℕ) where
         ];
       })
 
-  -- when all servers have had their turn, it is told of the configured servers' names
+  -- once all servers had their turn, what is told is told of the configured servers' names
   pub all_told : (n : ℕ) (told : List AddressTold) → length config.servers ≤ n → AreSoFar (take n config.servers) told → AreTold config rewrites told
   all_told n told long so_far = subst (λ (servers : List Server). AllZip IsTold servers told) (take_all n config.servers long) so_far.beside
 
@@ -55,7 +55,7 @@ module _ (config : Config) (rewrites states : ℕ) where
       so_far.few server (subst (λ (l : List Server). Contains l server) (sym (take_all n config.servers long)) among)
       (subst (PassesStates config rewrites states) (sym same) passes)
 
-  -- the next one passes, and none of those before it: it is the first
+  -- the next server is the first whose name reaches too many pairs, if its name does and none before it does
   pub first_server : (i : ℕ) (told : List AddressTold) (server : Server) → i < length config.servers → get_or config.servers i server ≡ server
       → AreSoFar (take i config.servers) told → IsName server.name → PassesStates config rewrites states server.name
       → IsFirstServerPassed config rewrites states server.name
@@ -76,6 +76,6 @@ module _ (config : Config) (rewrites states : ℕ) where
             so_far.few before among (subst (PassesStates config rewrites states) (sym same) other_passes);
       }
 
-  -- there is as much as there are servers
+  -- as many servers' names are told of as there are servers
   pub as_many : (told : List AddressTold) → AreTold config rewrites told → length told ≡ length config.servers
   as_many told are = AllZip-long IsTold config.servers told are

@@ -39,7 +39,7 @@ none_shown setting query silent =
 abbrev pub IsFew : Config → ℕ → ℕ → Labels → Type 0
 IsFew config rewrites states query = HasMoreThan (IsReached config rewrites query) states → ⊥
 
--- and shows nothing
+-- the query shows no fault with the two sets of learnt addresses
 abbrev pub IsSilent : Config → ℕ → Labels → Deps → Type 0
 IsSilent config rewrites query deps =
     (rtype : RrType) (fault : Fault) → Shows (with_lists (following config rewrites deps.least) deps.least deps.greatest) query rtype fault → ⊥
@@ -55,7 +55,7 @@ module _ (config : Config) (rewrites states : ℕ) (query : Labels) (deps : Deps
         ((lists_show config rewrites deps.least deps.least deps.greatest sets.least sets.greatest name rtype fault).1 shows))),
   )
 
-  -- and what is told of the ends that a call gives holds of the query, and of the names of which they tell the ends too
+  -- what is told of the ends that a call gives holds of the query, and of the names of which they tell the ends too
   pub straight_ends : {E : Type 0} (given : Result (Option StraightEnds) E) → IfOk given (λ found. IfSome found (λ ends. IsFew config rewrites states query))
       → IfOk given (λ found. IfSome found (λ ends. IsSilent config rewrites query deps))
       → IfOk given (λ found. IfSome found (λ ends. (rtype : RrType) → IsBoundedWith (following config rewrites deps.least) query rtype))

@@ -41,12 +41,12 @@ module _ (subject : Subject) (covers : Covers subject.ground subject.config) whe
   abbrev pub names_below : Labels → List Labels
   names_below = children_of subject.ground (is_closed subject.config subject.ground covers)
 
-  -- with the verdicts they are the subject's
+  -- the names below each name of the class tree, with the verdicts, are the subject's values
   pub values : (states : ℕ) → AreValues subject states names_below (verdict_of states)
   values states =
       record { children = children_are subject.ground (is_closed subject.config subject.ground covers); verdicts = verdict_is states }
 
-  -- none is a child of two
+  -- no name is one label below two names of the tree
   pub apart : ParentsApart subject.below names_below
   apart =
       let closed = is_closed subject.config subject.ground covers in

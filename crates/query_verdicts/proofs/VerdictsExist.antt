@@ -102,7 +102,7 @@ module _ (config : Config) (rewrites : ℕ) (query : Labels) where
         (map_has (pair_with pair.1) is.walk.states pair.0 is.stands)),
   )
 
-  -- whether they are more than so many is decided
+  -- whether a query reaches more pairs than so many is decided
   pub passes_decided : (states : ℕ) → Decided (PassesStates config rewrites states query)
   passes_decided states =
       let once = each_once same_pair (flat_map pairs_with types) in

@@ -86,7 +86,7 @@ module _ (subject : Subject) (all first : List ClassFault) (firsts : AreFirsts f
           all_shown = all_shown;
         }
 
--- with the size of the tree they are the report
+-- the entries of a subject's faults, with the size of its tree, are its report
 pub is_report : (subject : Subject) → IsCovering subject → (report : Report) → IsTreeSize subject.ground subject.below report.names report.classes
     → report.rewrites ≡ subject.rewrites → AreEntries subject report.entries → IsReport subject report
 is_report subject covering report size limit are =

@@ -102,12 +102,12 @@ trees_tell server trees moved P =
       λ some. seen.1 (among.0 some),
     )
 
--- their base names are the server's
+-- the base names of the trees' zones are those of the server
 pub trees_names : (server : Server) (trees : List ZoneTree) → IsPermutation server.zones (map (λ tree. tree.zone) trees) → (name : Labels)
     → SomeItem (λ tree. IsInZone name tree.zone) trees ↔ IsInServer name server
 trees_names server trees moved name = trees_tell server trees moved (IsInZone name)
 
--- and so are their redirections
+-- the redirections of the trees' zones are those of the server
 pub trees_pairs : (server : Server) (trees : List ZoneTree) → IsPermutation server.zones (map (λ tree. tree.zone) trees) → (pair : Redirection)
     → SomeItem (λ tree. Contains (zone_redirections tree.zone) pair) trees ↔ Contains (server_redirections server) pair
 trees_pairs server trees moved pair =
@@ -117,13 +117,13 @@ trees_pairs server trees moved pair =
       λ has. told.1 (flat.1 has),
     )
 
--- the base names of the servers are the configuration's
+-- the base names of the servers, in any order, are those of the configuration
 pub servers_names : (config : Config) (servers : List Server) → IsPermutation config.servers servers → (name : Labels)
     → SomeItem (IsInServer name) servers ↔ IsInConfig name config
 servers_names config servers moved name =
     let among = some_moved (IsInServer name) config.servers servers moved in (λ some. among.1 some, λ some. among.0 some)
 
--- and so are their redirections
+-- the redirections of the servers, in any order, are those of the configuration
 pub servers_pairs : (config : Config) (servers : List Server) → IsPermutation config.servers servers → (pair : Redirection)
     → SomeItem (λ server. Contains (server_redirections server) pair) servers ↔ Contains (redirections_of config) pair
 servers_pairs config servers moved pair =
@@ -170,7 +170,7 @@ own_base config root names none pairs dnames root_is none_is dnames_are of_confi
 
 -- ---- several configurations
 
--- the configuration of queries behind a reference
+-- the configuration of the queries behind a reference
 abbrev pub config_of : Bor LimitedQueries → Config
 config_of queries = queries.now.config
 

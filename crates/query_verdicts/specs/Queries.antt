@@ -48,7 +48,7 @@ queries_of subject states = limited_to subject.config subject.rewrites states
 abbrev pub Passes : LimitedQueries → Labels → Type 0
 Passes queries query = PassesStates queries.config queries.rewrites queries.states query
 
--- the name of some server does
+-- the name of some server reaches more pairs of state and type than a query may
 abbrev pub ServerPasses : LimitedQueries → Type 0
 ServerPasses queries = SomeServerPasses queries.config queries.rewrites queries.states
 
@@ -85,7 +85,8 @@ pub record StandsFor (ground : Ground) (class : Class) (query : Labels) : Type 0
   pub of_class : IsClassOf ground query class
   pub represents : IsRepresentative ground class query
 
--- what is known of the query's class under the configuration's own base names is so
+-- what is known of the query's class under the configuration's own base names holds: the class that the query
+-- represents, or the base names themselves
 abbrev pub IsOwnClass : Config → OwnClass → Labels → Type 0
 IsOwnClass config (Represents class) query = StandsFor (ground_of config) class.now query
 IsOwnClass config (Asked names) query = AreBaseNamesOf (ground_of config) names.now

@@ -36,7 +36,7 @@ decimal-leads : (n : ℕ) → n < 256 → has_leading_zero (decimal n) ≡ false
 decimal-leads zero lt = ap has_leading_zero (decimal_digit 0 (lit< tt))
 decimal-leads (suc n) lt = no-leading (decimal (suc n)) (first_decimal (suc n) (omega arith) (omega arith))
 
--- a number up to 255 is read back
+-- the text of a number up to 255 reads as the number
 pub part-complete : (n : ℕ) → n < 256 → part_of (decimal n) ≡ Some n
 part-complete n lt =
     let text = decimal n in
@@ -50,7 +50,7 @@ part-complete n lt =
     (and_from (is_digits text && leb (length text) 3) _ (and_from (is_digits text) _ (and_from (leb 1 (length text)) _ some digits) short) small)
     ∙ ap (λ (x : ℕ). Some x) value
 
--- what is read is a number up to 255 that is written so
+-- what reads as a part of an address is the text of a number up to 255
 pub part-sound : (text : List ℕ) (n : ℕ) → part_of text ≡ Some n → (n < 256) × (decimal n ≡ text)
 part-sound text n h = by_lead (cases_Bool (has_leading_zero text)) where
   by_lead : (has_leading_zero text ≡ true) ⊎ (has_leading_zero text ≡ false) → (n < 256) × (decimal n ≡ text)
@@ -69,14 +69,14 @@ part-sound text n h = by_lead (cases_Bool (has_leading_zero text)) where
         ap decimal (sym value) ∙ decimal-digits_value own text digits.1 (omega arith) (alone text (omega arith) free) (omega arith),
       )
 
--- digits lack what is no digit
+-- octets that all pass a test lack an octet that fails it
 pub tested-lack : (test : ℕ → Bool) (c : ℕ) (text : List ℕ) → test c ≡ false → list_all test text ≡ true → Lacks c text
 tested-lack test c [] other all = tt
 tested-lack test c (x ∷ text) other all =
     let parts = and_parts (test x) (list_all test text) all in
     (ne_eqb x c (λ e. both_ways (test x) (ap test e ∙ other) parts.0), tested-lack test c text other parts.1)
 
--- a number lacks what is no digit
+-- the text of a number below 256 lacks each octet that is no digit
 pub decimal-lacks : (c n : ℕ) → is_digit c ≡ false → n < 256 → Lacks c (decimal n)
 decimal-lacks c n other lt = tested-lack is_digit c (decimal n) other (digits_decimal own n (omega arith))
 
@@ -127,7 +127,7 @@ parts-sound (p ∷ q ∷ r ∷ s ∷ []) address h =
     })
 parts-sound (p ∷ q ∷ r ∷ s ∷ t ∷ parts) address h = absurd cc
 
--- a text of which an address is worked out stands for it
+-- a text that reads as an IPv4 address is a text of it
 pub ipv4-sound : (text address : List ℕ) → ipv4_of text ≡ Some address → IsIpv4Text text address
 ipv4-sound text address h =
     subst (λ (t : List ℕ). IsIpv4Text t address) (separated-split 46 text) (parts-sound (split_on 46 text) address h)

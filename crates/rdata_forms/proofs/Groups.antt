@@ -36,7 +36,7 @@ pub piece_before : (ends : Bool) (piece : List ℕ) (pieces : List (List ℕ)) �
 piece_before ends piece [] some = absurd (omega arith)
 piece_before ends piece (next ∷ pieces) some = refl
 
--- a group that was put behind the octets so far
+-- the octets so far with a group, and then with what follows, are the octets with both
 pub group_taken : (old new : List ℕ) (group others : Option (List ℕ)) → option_map (λ more. old ++ more) group ≡ Some new → option_map (λ more. old ++ more) (group_before group others) ≡ option_map (λ more. new ++ more) others
 group_taken old new None others h = cc
 group_taken old new (Some octets) None h = refl
@@ -44,7 +44,7 @@ group_taken old new (Some octets) (Some others) h =
     let same : old ++ octets ≡ new = cc in
     ap (λ (l : List ℕ). Some l) (sym (append_assoc old octets others) ∙ ap (λ (l : List ℕ). l ++ others) same)
 
--- a group for which there was no room, or that is none
+-- a group for which there is no room, or that is none, makes more than sixteen octets or none
 pub group_refused : (old : List ℕ) (group others : Option (List ℕ)) → IfSome group (λ more. 16 < length old + length more) → IfSome (option_map (λ more. old ++ more) (group_before group others)) (λ octets. 16 < length octets)
 group_refused old None others h = tt
 group_refused old (Some octets) None h = tt

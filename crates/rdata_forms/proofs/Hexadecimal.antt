@@ -13,7 +13,7 @@ hex_digit-lt octet h = grind (arith, nat_tests)
 abbrev pub hex_from : ℕ → List ℕ → Option ℕ
 hex_from value text = cond (list_all is_hex text) (Some (hex_after value text)) None
 
--- one digit more makes at most sixteen times as many numbers
+-- a number with one hexadecimal digit more is below sixteen times the bound
 pub hex_fits : (value digit i : ℕ) → value < 16 ^ i → digit < 16 → value * 16 + digit < 16 ^ (i + 1)
 hex_fits value digit i lt small =
     let next : 16 ^ (i + 1) ≡ 16 * 16 ^ i = ap (λ n. 16 ^ n) (add-one i) ∙ pow-succ' 16 i in omega arith

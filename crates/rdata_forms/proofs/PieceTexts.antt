@@ -15,7 +15,7 @@ use Rattle.rdata_forms.proofs.DottedTexts.{tested-lack, dotted-lacks, ipv4-sound
 use Rattle.rdata_forms.proofs.DoubleColon.{AreWords, separated-before, sides-sound}
 use Rattle.rdata_forms.proofs.TwoSides.{after_octets, after_none}
 
--- the value inside
+-- options that are equal and have a value have equal values
 pub inside : (a b : List ℕ) → Some a ≡ Some b → a ≡ b
 inside a b h = cc
 
@@ -208,7 +208,7 @@ short-sound text address sides (Some front) (Some back) split ef eb h =
           ∙ ap (λ (l : List ℕ). pieces_octets before.pieces ++ (replicate (16 - (length (pieces_octets before.pieces) + length l)) 0 ++ l)) (sym behind.all);
     }
 
--- a text of which an address is worked out stands for it
+-- a text that reads as an IPv6 address is a text of it
 pub ipv6-sound : (text address : List ℕ) → ipv6_of text ≡ Some address → IsIpv6Text text address
 ipv6-sound text address h = by_sides (sides_of text) refl h where
   by_sides : (o : Option Sides) → sides_of text ≡ o → ipv6_of_sides text o ≡ Some address → IsIpv6Text text address

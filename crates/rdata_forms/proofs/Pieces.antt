@@ -37,7 +37,7 @@ split-none separator text h = by_test (cases_Bool (ltb (position_or_len (λ octe
 pub split-some : (separator : ℕ) (text : List ℕ) → 0 < length (split_on separator text)
 split-some separator text = omega (arith, length-slice_split (λ octet. octet == separator) text)
 
--- what is left has a piece
+-- what is left of a text, if anything is, has at least one piece
 pub pieces_behind : (separator : ℕ) (rest : Option (Bor (List ℕ))) → is_some rest ≡ true → 0 < length (option_map_or (λ text. split_on separator text.now) rest [])
 pieces_behind separator None h = cc
 pieces_behind separator (Some text) h = split-some separator text.now

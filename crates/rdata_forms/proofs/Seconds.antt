@@ -12,7 +12,7 @@ use Rattle.rdata_forms.specs.Times.{unit_of, with_digit, time_group_of, seconds_
 abbrev pub time_from : ℕ → Bool → Option ℕ → List ℕ → Option ℕ
 time_from seconds grouped value text = option_and_then if_ttl (option_map (λ others. seconds + others) (seconds_after grouped value text))
 
--- a number of seconds that isn't below another, where there is one
+-- the number of seconds, if there is one, isn't below another
 abbrev pub NotBelow : ℕ → Option ℕ → Type 0
 NotBelow least None = Unit {0}
 NotBelow least (Some seconds) = least ≤ seconds
@@ -61,12 +61,12 @@ seconds_after-ge grouped value (c ∷ cs) =
       by_octet true more = more
       by_octet false more = in_unit (unit_of c) (seconds_after true None cs) (unit_some c)
 
--- too many seconds are none
+-- seconds that are more than a TTL may have are no TTL
 pub if_ttl-large : (least : ℕ) (o : Option ℕ) → 2147483647 < least → NotBelow least o → option_and_then if_ttl o ≡ None
 if_ttl-large least None large below = refl
 if_ttl-large least (Some seconds) large below = cond-false (leb seconds 2147483647) _ _ (lt-leb seconds 2147483647 (omega arith))
 
--- a value that is too large stays so
+-- digits whose value is too large make no time
 pub time_from-large : (seconds : ℕ) (grouped : Bool) (value : ℕ) (text : List ℕ) → 2147483647 < value → time_from seconds grouped (Some value) text ≡ None
 time_from-large seconds grouped value text large =
     if_ttl-large value _ large (added (seconds_after grouped (Some value) text) (seconds_after-ge grouped value text))
@@ -88,7 +88,7 @@ group_then-taken seconds sum None text h = cc
 group_then-taken seconds sum (Some group) text h =
     group_then-some seconds group text ∙ ap (λ (total : ℕ). time_from total true None text) ((cond_some (leb (seconds + group) 2147483647) (seconds + group) sum h).1)
 
--- the octet at a place
+-- a time's text from a place on is the octet there and what is behind it
 pub time_from-at : (seconds : ℕ) (grouped : Bool) (value : Option ℕ) (text : List ℕ) (i : ℕ) → i < length text → time_from seconds grouped value (drop i text) ≡ time_from seconds grouped value (get_or text i 0 ∷ drop (i + 1) text)
 time_from-at seconds grouped value text i h = ap (time_from seconds grouped value) (drop-cons text i 0 h ∙ ap (λ (k : ℕ). get_or text i 0 ∷ drop k text) (sym (add-one i)))
 
@@ -102,7 +102,7 @@ pub time_from-stopped : (seconds : ℕ) (grouped : Bool) (value : Option ℕ) (t
 time_from-stopped seconds grouped value text i lt h large =
     time_from-digit_at seconds grouped value text i lt h ∙ time_from-large seconds grouped (with_digit value (get_or text i 0)) (drop (i + 1) text) large
 
--- the letter at a place ends a group
+-- the octet at a place ends a group of a time, if it is no digit
 pub time_from-letter_at : (seconds : ℕ) (grouped : Bool) (value : Option ℕ) (text : List ℕ) (i : ℕ) → i < length text → is_digit (get_or text i 0) ≡ false → time_from seconds grouped value (drop i text) ≡ group_then seconds (time_group_of value (get_or text i 0)) (seconds_after true None (drop (i + 1) text))
 time_from-letter_at seconds grouped value text i lt h =
     time_from-at seconds grouped value text i lt ∙ time_from-letter seconds grouped value (get_or text i 0) (drop (i + 1) text) h

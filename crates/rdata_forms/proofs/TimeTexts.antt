@@ -182,7 +182,7 @@ seconds-sound grouped digits (c ∷ rest) seconds all h =
       by_octet go_on behind (inr letter) =
           letter-sound grouped digits c rest seconds all behind (sym (cond-false (is_digit c) _ _ letter) ∙ h)
 
--- a text of which a time is worked out stands for it
+-- a text that reads as a time is a text of these seconds
 pub time-sound : (text : List ℕ) (seconds : ℕ) → time_of text ≡ Some seconds → IsTimeText text seconds
 time-sound text seconds h = taken (seconds_after false None text) (λ e. seconds-sound false [] text seconds refl e) h where
   taken : (o : Option ℕ) → (o ≡ Some seconds → IsSecondsText text seconds ⊎ IsGroupsText text seconds) → option_and_then if_ttl o ≡ Some seconds → IsTimeText text seconds

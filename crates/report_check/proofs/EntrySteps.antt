@@ -94,7 +94,7 @@ module _ (setting : Setting) (query : Labels) (rtype : RrType) (all : List Walk)
 
   -- ---- another number
 
-  -- without a list at `walks` it is shown by none
+  -- an entry without a list at `walks` is shown by no walks
   pub no_steps : list_at (codes "walks") value ≡ None → ByWalks setting query rtype all value → ⊥
   no_steps at by =
       let same : None ≡ Some (map walk_value by.walks) =
@@ -109,7 +109,7 @@ module _ (setting : Setting) (query : Labels) (rtype : RrType) (all : List Walk)
   one_or_two (walk ∷ other ∷ []) fault show = inr (walk, other, refl)
   one_or_two (walk ∷ other ∷ third ∷ walks) fault show = absurd show
 
-  -- so it isn't shown where the list has none, or more than two
+  -- an entry whose list at `walks` has none, or more than two, is shown by no walks
   pub no_other_steps : (steps : List Data) → list_at (codes "walks") value ≡ Some steps → ((one : Data) → steps ≡ one ∷ [] → ⊥) → ((one other : Data) → steps ≡ one ∷ other ∷ [] → ⊥)
       → ByWalks setting query rtype all value → ⊥
   no_other_steps steps at not_one not_two by =

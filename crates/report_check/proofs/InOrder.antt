@@ -14,13 +14,13 @@ use Rattle.report_check.specs.declared.answer.CheckFault.{CheckFault}
 use Rattle.report_check.specs.declared.answer.CheckFault.TheVariants.{NotReport, Walks, NoMemory}
 
 module _ {V : Type 0} (see : V → Data) where
-  -- what holds along a list holds of one item
+  -- what holds along a list of values holds of the value of one item
   pub at_item : (P : Data → Type 0) (xs : List V) (i : ℕ) (x : V) → AllByRecursion P (map see xs) → i < length xs → x ≡ get_or xs i x → P (see x)
   at_item P [] i x each below is = absurd (omega arith)
   at_item P (y ∷ xs) zero x each below is = subst (λ z. P (see z)) (sym is) each.0
   at_item P (y ∷ xs) (suc i) x each below is = at_item P xs i x each.1 (omega arith) is
 
-  -- one more
+  -- what holds of the values of the first items and of the next one holds of those of all of them
   pub one_more : (P : Data → Type 0) (xs : List V) (i : ℕ) (x : V) → i < length xs → x ≡ get_or xs i x → AllByRecursion P (map see (take i xs)) → P (see x) → AllByRecursion P (map see (take (i + 1) xs))
   one_more P xs i x there is each one =
       subst (λ l. AllByRecursion P (map see l)) (ap (λ y. take i xs ++ y ∷ []) is ∙ sym (take_more xs i x there))
@@ -30,7 +30,7 @@ module _ {V : Type 0} (see : V → Data) where
       mapped [] = refl
       mapped (y ∷ ys) = ap (λ l. see y ∷ l) (mapped ys)
 
-  -- all
+  -- what holds of the values of as many items as there are holds of all
   pub all_of : (P : Data → Type 0) (xs : List V) (i : ℕ) → length xs ≤ i → AllByRecursion P (map see (take i xs)) → AllByRecursion P (map see xs)
   all_of P xs i past each = subst (λ l. AllByRecursion P (map see l)) (take_all i xs past) each
 
@@ -44,7 +44,7 @@ module _ {V : Type 0} (see : V → Data) where
   count (z ∷ ys) zero below = refl
   count (z ∷ ys) (suc k) below = ap suc (count ys k (omega arith))
 
-  -- the first that is so
+  -- the next entry is the first with the property, if all before are confirmed and it has it
   pub first_so : (config : Config) (rewrites : ℕ) (so : Data → Type 0) (xs : List V) (i : ℕ) (x : V) (number : ℕ) → i < length xs → x ≡ get_or xs i x → number ≡ i + 1
       → AllByRecursion (IsConfirmed config rewrites) (map see (take i xs)) → so (see x) → IsFirst config rewrites so (map see xs) number
   first_so config rewrites so xs i x number there is counted each this =
@@ -76,11 +76,11 @@ module _ {V : Type 0} (see : V → Data) (config : Config) (rewrites : ℕ) (xs 
   fault_comes (Walks entry) looked = first_so see config rewrites (PassesWalks config rewrites) xs i x entry there is looked.0 each looked.1
   fault_comes NoMemory looked = tt
 
-  -- and a wrong entry is the first
+  -- if all entries before are confirmed and the next is wrong, it is the first wrong one
   pub wrong_comes : IsWrong config rewrites (see x) → IsFirst config rewrites (IsWrong config rewrites) (map see xs) (i + 1)
   wrong_comes wrong = first_so see config rewrites (IsWrong config rewrites) xs i x (i + 1) there is refl each wrong
 
--- a fault that is handed on
+-- a fault of the entries that is handed on is what they come to
 pub handed_on : (config : Config) (rewrites : ℕ) (all : List Data) (fault : CheckFault) (answer : Result Checked CheckFault) → IsErr answer × IsErrAnd answer (λ own. own ≡ fault)
     → EntriesComeTo config rewrites all (Err fault) → EntriesComeTo config rewrites all answer
 handed_on config rewrites all fault (Ok checked) is comes = absurd cc

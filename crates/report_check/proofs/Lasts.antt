@@ -3,7 +3,7 @@ use Rattle.std.proofs.Common.{◌≡◌, ◌-◌, suc, List, [], ◌∷◌, ◌+
 use Rattle.std.proofs.lemmas.List.{length-append}
 use Rattle.report_check.specs.WalkFaults.{last_of}
 
--- the others stand before it
+-- a list with a last item is the items before it and that one
 pub before_last : {X : Type 0} (xs : List X) (x : X) → last_of xs ≡ Some x → (before : List X) × (xs ≡ before ++ x ∷ [])
 before_last [] x last = absurd cc
 before_last (y ∷ []) x last =
@@ -15,7 +15,7 @@ before_last (y ∷ z ∷ zs) x last =
     let rest = before_last (z ∷ zs) x (ap (slice_get (z ∷ zs)) there ∙ subst (λ n. slice_get (y ∷ z ∷ zs) n ≡ Some x) here last) in
     (y ∷ rest.0, ap (λ l. y ∷ l) rest.1)
 
--- and behind others stands it
+-- the last item of a list with one put behind it is that one
 pub last_behind : {X : Type 0} (before : List X) (x : X) → last_of (before ++ x ∷ []) ≡ Some x
 last_behind [] x = refl
 last_behind (y ∷ before) x =

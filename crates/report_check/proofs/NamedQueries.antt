@@ -16,7 +16,7 @@ use Rattle.report_check.specs.Right.{NamesQuery}
 one_read : (one other : Labels) (read : Result Labels NameFault) → read ≡ Ok one → read ≡ Ok other → one ≡ other
 one_read one other read is also = cc
 
--- names with one text are one
+-- names with the same text are equal
 pub one_name : (one other : Labels) → IsName one → IsName other → name_text one ≡ name_text other → one ≡ other
 one_name one other is also e =
     one_read one other (name_of_text (name_text one) []) (text_reads_back one [] is)
@@ -50,7 +50,7 @@ not_named text fault reads other is e =
     no_other : (read : Result Labels NameFault) → read ≡ Err fault → read ≡ Ok other → ⊥
     no_other read is also = cc
 
--- so types with one word are one
+-- types with the same word are equal
 pub one_type : (one other : RrType) → word_of one ≡ word_of other → one ≡ other
 one_type one other e =
     let same : Some one ≡ Some other = sym (word_back one) ∙ ap type_of_word e ∙ word_back other in
@@ -68,6 +68,6 @@ one_query value query other rtype with_type is also = (
   one_type rtype with_type (one_text (word_of rtype) (word_of with_type) _ is.type_is also.type_is),
 )
 
--- that of an entry those of the entry
+-- the value of an entry names the entry's query and its type
 pub entry_names : (entry : ReportEntry) → IsName entry.query → NamesQuery (entry_value entry) entry.query entry.seen.rtype
 entry_names entry is = record { is_name = is; query_is = refl; type_is = refl }

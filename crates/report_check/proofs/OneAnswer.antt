@@ -130,7 +130,7 @@ module _ (config : Config) (octets : List ℕ) where
       one_end config is.0.rewrites is.0.entries one other is.2.1
       (subst (λ (r : StatedReport). EntriesComeTo config r.rewrites r.entries other) (one_report also.0 is.0 also.1 is.1) also.2.1) some more
 
--- two answers to a configuration and octets, of which neither is `NoMemory`, are one
+-- two answers to a configuration and octets are equal, if neither is `NoMemory`
 pub only_answer : (config : Config) (octets : List ℕ) (one other : Result Checked CheckFault) → IsChecked config octets one → IsChecked config octets other
     → one ≢ Err NoMemory → other ≢ Err NoMemory → one ≡ other
 only_answer config octets one other is also some more =

@@ -14,12 +14,12 @@ use Rattle.query_classes.proofs.SameGrounds.{class_same, represents_same, same_b
 abbrev pub StandsForIts : Ground → Labels → Type 0
 StandsForIts ground query = (class : Class) × IsClassOf ground query class × IsRepresentative ground class query
 
--- a class of a name is that of a named one
+-- the class of a name is that of a named name
 pub class_named : (ground : Ground) (query : Labels) (class : Class) → IsClassOf ground query class → IsNamed ground (class_name class)
 class_named ground query (Exact alone) is = subst (IsNamed ground) (sym is.0) is.1
 class_named ground query (Below above) is = is.1.named
 
--- the name that stands for the class of a name is this one, where this one represents it
+-- the representative of a query's class is the query exactly if the query represents its class
 pub stands_told : (ground : Ground) (query : Labels) (class : Class) → IsClassOf ground query class → (name : Labels) → IsRepresentative ground class name
     → (name ≡ query) ↔ StandsForIts ground query
 stands_told ground query class is name stands = (
@@ -29,7 +29,7 @@ stands_told ground query class is name stands = (
       (subst (λ (c : Class). IsRepresentative ground c query) (one_class ground query class other is also) represents),
 )
 
--- under grounds that are the same
+-- a name that represents its class under a ground does so under each ground with the same names and redirections
 pub stands_alike : (one other : Ground) → AreSame one other → (query : Labels) → StandsForIts one query → StandsForIts other query
 stands_alike one other same query (class, is, represents) =
     (class, class_same one other same query class is, represents_same one other same class query represents)

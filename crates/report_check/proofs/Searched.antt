@@ -9,7 +9,7 @@ use Rattle.dns_data.proofs.Membership.{none_in_nil, first_or_later}
 pub is_there : {X : Type 0} (xs : List X) (i : ℕ) (x : X) → i < length xs → x ≡ get_or xs i x → Contains xs x
 is_there xs i x within is = subst (Contains xs) (sym is) (Contains-get_or xs i x within)
 
--- a list of one item, and of two
+-- a list of one item is its first item
 pub only_one : {X : Type 0} (xs : List X) (x : X) → 1 ≤ length xs → length xs < 2 → x ≡ get_or xs 0 x → xs ≡ x ∷ []
 only_one [] x some few is = absurd (omega arith)
 only_one (y ∷ []) x some few is = ap (λ z. z ∷ []) (sym is)
@@ -23,7 +23,7 @@ only_two (a ∷ b ∷ []) x y some few is also = ap (λ z. z ∷ b ∷ []) (sym 
 only_two (a ∷ b ∷ c ∷ xs) x y some few is also = absurd (omega arith)
 
 module _ {X : Type 0} (P : X → Type 0) (xs : List X) (i : ℕ) (none : (y : X) → Contains (take i xs) y → P y → ⊥) where
-  -- with one more that isn't so, none of those so far is
+  -- if none of the first items has a property nor the next one, none up to it has
   pub none_more : (x : X) → i < length xs → x ≡ get_or xs i x → (P x → ⊥) → (y : X) → Contains (take (i + 1) xs) y → P y → ⊥
   none_more x within is not y has so =
       elim (Contains-append_cases (take i xs) (x ∷ []) y
@@ -35,6 +35,6 @@ module _ {X : Type 0} (P : X → Type 0) (xs : List X) (i : ℕ) (none : (y : X)
         ]
       ]
 
-  -- so at the end none is
+  -- if none of as many items as there are has a property, none has
   pub none_at_all : length xs ≤ i → (y : X) → Contains xs y → P y → ⊥
   none_at_all past y has so = none y (subst (λ (ys : List X). Contains ys y) (sym (take_all i xs past)) has) so

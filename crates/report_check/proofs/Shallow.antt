@@ -43,7 +43,7 @@ array_shallow (array own) items e =
     omega (arith, ap items_depth same)
 array_shallow (object own) items e = absurd cc
 
--- so the items of the list at a key
+-- the items of the list at a key nest no deeper than the value
 pub list_shallow : (key : List ℕ) (value : Data) (list : List Data) (most : ℕ) → list_at key value ≡ Some list → depth value ≤ most
     → AllByRecursion (λ (one : Data). depth one ≤ most) list
 list_shallow key value list most at within = of_found (get key value) refl at where

@@ -14,7 +14,7 @@ use Rattle.report_json.specs.Report.{entry_value}
 use Rattle.serde_json.specs.Data.{Data}
 use Rattle.report_check.specs.Entries.{IsShownBy, entry_with, first_repeats}
 
--- the entry that they show is that of the query's class and type
+-- the entry that two walks show is that of differing answers of the query's class and type
 pub answers_shown : (setting : Setting) (query : Labels) (rtype : RrType) (class : Class)
     → ((other : Class) → IsClassOf (ground_of setting.config) query other → other ≡ class) → (one other : Walk) (value : Data)
     → IsShownBy setting query rtype (one ∷ other ∷ []) value
@@ -29,7 +29,7 @@ answers_shown setting query rtype class single one other value shown = by shown.
       ∙ ap (λ (t : RrType). entry_value (entry_with query rtype (first_repeats (one ∷ other ∷ [])) (one ∷ other ∷ []) (faults.Answers class t))) may.0
   by fault may show is = absurd show
 
--- and their answers differ
+-- two walks that show an entry have other answers
 pub two_differ : (setting : Setting) (query : Labels) (rtype : RrType) (one other : Walk) (value : Data) → IsShownBy setting query rtype (one ∷ other ∷ []) value
     → ShowsAnswers one other
 two_differ setting query rtype one other value shown = by shown.fault shown.show where

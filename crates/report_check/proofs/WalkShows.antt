@@ -192,6 +192,6 @@ module _ (setting : Setting) (deps : Deps) (learnt : HasLearntNames setting.conf
           (not_from_false (is_among deps.greatest cut.ns) (false_from_ne_true (is_among deps.greatest cut.ns)
           (λ e. show.not_at_most ((in_greatest setting.config setting.rewrites deps.greatest learnt.greatest cut.ns).1 (from_listed deps.greatest cut.ns e)))))))
 
-      -- so what is found is what is shown
+      -- the faults that are found of a walk are those that it shows
       pub faults_told : (fault : Fault) → Contains (walk_faults setting.config deps walk) fault ↔ WalksShow (with_sets setting) (walk ∷ []) fault
       faults_told fault = (found_shown fault, shown_found fault)

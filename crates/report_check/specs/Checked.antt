@@ -35,7 +35,7 @@ IsConfirmed config rewrites value = IsRight config rewrites value × (PassesWalk
 abbrev pub IsWrong : Config → ℕ → Data → Type 0
 IsWrong config rewrites value = (IsRight config rewrites value → ⊥) × (PassesWalks config rewrites value → ⊥)
 
--- the entry with this number is so, and all before it are confirmed
+-- the entry with this number has the property, and all entries before it are confirmed
 pub record IsFirst (config : Config) (rewrites : ℕ) (so : Data → Type 0) (entries : List Data) (number : ℕ) : Type 0 where
   pub before : List Data
   pub entry : Data
@@ -47,21 +47,22 @@ pub record IsFirst (config : Config) (rewrites : ℕ) (so : Data → Type 0) (en
 
 -- ---- the sets of learnt addresses
 
--- some server's name has too many walks in one of the sets from which a round starts, begun with these
+-- from these servers on, some server's name has too many walks in one of the sets from which a round starts
 abbrev pub RoundsPass : Config → ℕ → List Labels → Type 0
 RoundsPass config rewrites begin = (name : Labels) × IsFirstWithTooMany config rewrites most_walks_followed begin name
 
--- begun with no server, for the least set, or with all, for the greatest
+-- some server's name has too many walks in the rounds for the least set or in those for the greatest
 abbrev pub LearningPasses : Config → ℕ → Type 0
 LearningPasses config rewrites = RoundsPass config rewrites [] ⊎ RoundsPass config rewrites (server_names config)
 
 -- ---- the answers
 
--- the octets are those of a report of which this is so
+-- the octets are those of a report with the property
 abbrev pub OfReport : List ℕ → (StatedReport → Type 0) → Type 0
 OfReport octets so = (report : StatedReport) × (report_in octets ≡ Some report) × so report
 
--- whose entries are looked at, since both sets of learnt addresses are found, and of which this is so
+-- the octets are those of a report whose entries have the property, with its rewrites, and both sets of learnt
+-- addresses are found
 abbrev pub OfEntries : Config → List ℕ → (ℕ → List Data → Type 0) → Type 0
 OfEntries config octets so =
     OfReport octets (λ report. (LearningPasses config report.rewrites → ⊥) × so report.rewrites report.entries)

@@ -58,14 +58,14 @@ pub record ByOther (setting : Setting) (query : Labels) (rtype : RrType) (one : 
   pub steps_are : steps ≡ walk_value walk
   pub shown : IsShownBy setting query rtype (one ∷ walk ∷ []) value
 
--- by two of all walks, whose values are these
+-- the entry is shown by two of all walks, which have these values
 pub record ByTwo (setting : Setting) (query : Labels) (rtype : RrType) (all : List Walk) (steps others value : Data) : Type 0 where
   pub walk : Walk
   pub among : Contains all walk
   pub steps_are : steps ≡ walk_value walk
   pub other : ByOther setting query rtype walk all others value
 
--- by one of all walks, or by two of them
+-- the entry is shown by some of all walks
 pub record ByWalks (setting : Setting) (query : Labels) (rtype : RrType) (all : List Walk) (value : Data) : Type 0 where
   pub walks : List Walk
   pub among : (walk : Walk) → Contains walks walk → Contains all walk

@@ -182,7 +182,7 @@ report_is_plain report classes names rewrites = ((refl, (refl, (refl, tt))), cla
 pub report_is_deep : (report : Report) → depth (report_value report) ≤ 7
 report_is_deep report = omega (arith, each_deep entry_value 5 entry_is_deep report.entries)
 
--- what serde_json writes of it is its compact text, whatever its numbers are
+-- the value of a report has no number with a fraction
 pub report_no_float : (report : Report) → has_float (report_value report) ≡ false
 report_no_float report = rw (items_no_float (json_items (map entry_value report.entries)) (each_plain entry_value entry_is_plain report.entries)) refl
 
@@ -230,7 +230,7 @@ scope_is_plain report name told classes names rewrites =
 pub scope_is_deep : (report : Report) (name : Labels) (told : List SiteFindings) → depth (scope_value report name told) ≤ 7
 scope_is_deep report name told = omega (arith, each_deep entry_value 5 entry_is_deep report.entries, each_deep site_value 2 site_is_deep told)
 
--- what serde_json writes of it is its compact text, whatever its numbers are
+-- the value of a scope's report, with what checks tell, has no number with a fraction
 pub scope_no_float : (report : Report) (name : Labels) (told : List SiteFindings) → has_float (scope_value report name told) ≡ false
 scope_no_float report name told =
     rw (

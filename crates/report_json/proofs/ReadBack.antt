@@ -117,14 +117,14 @@ read_by_tokens value text plain shallow same =
     ap (json.value max_depth) (same ∙ sym (append-nil (tree.json_tokens j))) ∙ value-json_tokens j max_depth [] (rw (as_deep value) shallow) in
     ap (λ o. option_and_then of_json (option_and_then (λ p. json.if_last p.0 p.1) o)) whole ∙ back value plain
 
--- so is its compact text
+-- the compact text of a plain value that isn't nested too deep reads as the value
 pub reads_back : (value : Data) → IsPlain value → depth value ≤ max_depth → read (compact_text value) ≡ Some value
 reads_back value plain shallow =
     let j = outline value in
     read_by_tokens value (compact_text value) plain shallow
     (ap tokens (sym (print-outline value)) ∙ tokens-print (tree.json_tokens j) (ArePrintable-json_tokens j (has_numbers value plain)))
 
--- and with a line feed behind it
+-- the compact text of a plain value that isn't nested too deep, with a line feed behind it, reads as the value
 pub line_reads_back : (value : Data) → IsPlain value → depth value ≤ max_depth → read (compact_text value ++ codes "\n") ≡ Some value
 line_reads_back value plain shallow =
     let j = outline value in

@@ -8,12 +8,12 @@ use Rattle.serde_json.specs.Events.{items_len, members_len, SendsValue, SendsIte
 use Rattle.report_json.specs.Json.{json_items, array_of, json_members, object_of}
 use Rattle.report_json.specs.Walks.{zone_member}
 
--- as many items as values
+-- the JSON items of a list are as many as the list has
 pub items_len_of : (values : List Data) → items_len (json_items values) ≡ length values
 items_len_of [] = refl
 items_len_of (value ∷ values) = ap suc (items_len_of values)
 
--- as many members
+-- the JSON members of a list are as many as the list has
 pub members_len_of : (members : List (List ℕ × Data)) → members_len (json_members members) ≡ length members
 members_len_of [] = refl
 members_len_of (one ∷ more) = ap suc (members_len_of more)
@@ -30,13 +30,13 @@ pub object_sent : (members : List (List ℕ × Data)) (count : ℕ) (old first n
 object_sent members count old first new same begun sent =
     (first, subst (λ n. Logs old first (map_begins (Some n))) (same ∙ sym (members_len_of members)) begun, sent)
 
--- values that were sent each, and the end of the sequence
+-- values that were sent each, and then the end of the sequence, send the items of the list
 pub items_sent : (values : List Data) (old mid new : Log) → WritesEach SendsValue values old mid → Logs mid new seq_ends
     → SendsItems (json_items values) old new
 items_sent [] old mid new sent ended = subst (λ log. Logs log new seq_ends) sent ended
 items_sent (value ∷ values) old mid new sent ended = (sent.0, sent.1, items_sent values sent.0 mid new sent.2 ended)
 
--- values that were sent each, and more behind them
+-- values that were sent each, and then more that were, are all sent each
 pub each_sent : (values more : List Data) (old mid new : Log) → WritesEach SendsValue values old mid
     → WritesEach SendsValue more mid new → WritesEach SendsValue (values ++ more) old new
 each_sent [] more old mid new sent others = subst (λ log. WritesEach SendsValue more log new) sent others
@@ -48,14 +48,14 @@ pub mapped_and_more : {A B : Type 0} (f : A → B) (items : List A) (more : List
 mapped_and_more f [] more = omega arith
 mapped_and_more f (item ∷ items) more = let rest = mapped_and_more f items more in omega (arith, rest)
 
--- an object with the same members and the same zone
+-- sending an object sends each object with the same members and the same zone
 pub same_object : (members same : List (List ℕ × Data)) (zone same_zone : Option Labels) (old new : Log) → members ≡ same
     → zone ≡ same_zone → SendsValue (object_of (members ++ zone_member zone)) old new → SendsValue (object_of (same ++ zone_member same_zone)) old new
 same_object members same zone same_zone old new by_members by_zone sent =
     subst (λ last. SendsValue (object_of (same ++ zone_member last)) old new) by_zone
     (subst (λ first. SendsValue (object_of (first ++ zone_member zone)) old new) by_members sent)
 
--- an item, and what is left behind it
+-- the items from a place on are the one there and those behind it
 pub left_at : {A : Type 0} (items : List A) (i : ℕ) (item : A) → i < length items → item ≡ get_or items i item
     → drop i items ≡ item ∷ drop (i + 1) items
 left_at items i item below is =

@@ -60,15 +60,15 @@ scope_reads_back report name told classes names rewrites =
 pub walk_told : (value : Data) (text : List ℕ) → IsWritten value text → (walk : Walk) → (text ≡ walk_text walk) ↔ (value ≡ walk_value walk)
 walk_told value text written walk = one_text value (walk_value walk) text (walk_is_plain walk) (walk_is_shallow walk) written
 
--- and so of an entry
+-- what serde_json writes of a value is the text of an entry exactly if the value is the entry's
 pub entry_told : (value : Data) (text : List ℕ) → IsWritten value text → (entry : ReportEntry)
     → (text ≡ entry_text entry) ↔ (value ≡ entry_value entry)
 entry_told value text written entry = one_text value (entry_value entry) text (entry_is_plain entry) (entry_is_shallow entry) written
 
--- so two walks have one text exactly where they have one value
+-- two walks have the same text exactly if they have the same value
 pub walks_told : (one other : Walk) → (walk_text one ≡ walk_text other) ↔ (walk_value one ≡ walk_value other)
 walks_told one other = walk_told (walk_value one) (walk_text one) (plain_written (walk_value one) (walk_is_plain one) (walk_is_shallow one)) other
 
--- and two entries
+-- two entries have the same text exactly if they have the same value
 pub entries_told : (one other : ReportEntry) → (entry_text one ≡ entry_text other) ↔ (entry_value one ≡ entry_value other)
 entries_told one other = entry_told (entry_value one) (entry_text one) (plain_written (entry_value one) (entry_is_plain one) (entry_is_shallow one)) other

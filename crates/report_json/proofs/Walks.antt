@@ -39,7 +39,7 @@ side_by_side (state ∷ states) (hop ∷ hops) more =
     let rest = side_by_side states hops more in
     omega (arith, rest)
 
--- and one last step
+-- a walk has a step for each state with a hop, and one last step
 pub steps_count : (leaf : Leaf) (states : List State) (hops : List Hop) → states ≢ []
     → length (hop_values states hops ++ end_values leaf states) ≡ min (length states) (length hops) + 1
 steps_count leaf [] hops some = absurd (some refl)

@@ -26,7 +26,7 @@ use Rattle.net_model.specs.Walk.{branched, walk_along, walk_from}
 use Rattle.net_model.proofs.Counting.{no_more_than}
 use Rattle.resting_names.specs.Resting.{Rests, ended}
 
--- an answer that ends a walk ends it
+-- if the answer of a zone ends a walk, the state's one branch is that end
 pub ends_by : (answer : Found) (leaf : Leaf) → ended answer ≡ Some leaf → (setting : Setting) (state : State) (origin : Labels)
     → after_lookup setting state origin answer ≡ End None leaf ∷ []
 ends_by (found_as.Answer rdata) leaf e setting state origin = let same : Answer rdata ≡ leaf = cc in ap (λ (l : Leaf). End None l ∷ []) same
@@ -45,7 +45,7 @@ module _ (config : Config) (name : Labels) (rests : Rests config name) (rewrites
   leaf_by rtype None = Some Outside
   leaf_by rtype (Some zone) = ended (found zone name rtype)
 
-  -- the walk of a state with the name ends so
+  -- a state with a name that rests ends as its server's nearest zone says
   pub ends_as : (rtype : RrType) (state : State) (held : Option Zone) (leaf : Leaf) → state.name ≡ name → nearest_of config state.server name ≡ held
       → leaf_by rtype held ≡ Some leaf → next while rtype state ≡ End None leaf ∷ []
   ends_as rtype state held leaf is near ends = here ∙ by held ends where
@@ -58,7 +58,7 @@ module _ (config : Config) (name : Labels) (rests : Rests config name) (rewrites
         ap (λ (n : Labels). after_lookup while state zone.origin (found zone n rtype)) is
         ∙ ends_by (found zone name rtype) leaf e while state zone.origin
 
-  -- and in some leaf
+  -- a state with a name that rests ends in some leaf
   pub ends_there : (rtype : RrType) (state : State) → state.name ≡ name → (leaf : Leaf) × (next while rtype state ≡ End None leaf ∷ [])
   ends_there rtype state is = by (nearest_of config state.server name) refl where
     by : (held : Option Zone) → nearest_of config state.server name ≡ held → (leaf : Leaf) × (next while rtype state ≡ End None leaf ∷ [])
@@ -73,7 +73,8 @@ module _ (config : Config) (name : Labels) (rests : Rests config name) (rewrites
       let (server, among, is) = from_map (arrived config name true 0 None) config.tops state has in
       sym (ap (λ (s : State). s.name) is)
 
-  -- what a walk of it is: one state, one number behind that of the state, and the end of the state's one branch
+  -- the walk of a name that rests has one state, one number behind that of the state, and the end of the state's one
+  -- branch
   pub record IsOneState (rtype : RrType) (numbers : List ℕ) (walk : Walk) : Type 0 where
     pub state : State
     pub begins : Contains (start config name) state
@@ -118,7 +119,7 @@ module _ (config : Config) (name : Labels) (rests : Rests config name) (rewrites
           ends = ends ∙ ap (λ (l : Leaf). End None l ∷ []) (sym so.1.1);
         }
 
-  -- each walk is so
+  -- each walk of a name that rests has one state
   pub one_state : (rtype : RrType) (numbers : List ℕ) (walk : Walk) → walk_along while name rtype numbers ≡ Some walk → IsOneState rtype numbers walk
   one_state rtype [] walk e = cc
   one_state rtype (number ∷ numbers) walk e = by (slice_get (start config name) number) refl e where
@@ -138,7 +139,7 @@ module _ (config : Config) (name : Labels) (rests : Rests config name) (rewrites
           ends = so.ends;
         }
 
-  -- and such an end is one of a walk
+  -- the end of a start state of a name that rests is that of a walk
   pub walk_of : (rtype : RrType) (place : ℕ) (state : State) (leaf : Leaf) → slice_get (start config name) place ≡ Some state
       → next while rtype state ≡ End None leaf ∷ [] → walk_along while name rtype (place ∷ 0 ∷ []) ≡ Some (record { states = state ∷ []; hops = []; leaf = leaf })
   walk_of rtype place state leaf there ends =
@@ -196,7 +197,7 @@ numbered_has from (first ∷ states) (suc place) state e =
     subst (λ (n : ℕ). Contains (numbered from (first ∷ states)) (n ∷ 0 ∷ [])) (let is : (from + 1) + place ≡ from + suc place = omega arith in is)
     (has_later (from ∷ 0 ∷ []) (numbered (from + 1) states) (((from + 1) + place) ∷ 0 ∷ []) (numbered_has (from + 1) states place state e))
 
--- and has no more walks with a type
+-- a name that rests has no more walks with a type than there are top servers
 pub few_walks : (config : Config) (rewrites most : ℕ) (followed : List Labels) (name : Labels) (rtype : RrType) → Rests config name → length config.tops ≤ most
     → HasMoreThan (λ numbers. IsSome (walk_along (following config rewrites followed) name rtype numbers)) most → ⊥
 few_walks config rewrites most followed name rtype rests fits more =

@@ -205,6 +205,7 @@ module _ (config : Config) (zone : Zone) (of_config : Contains (zones config) zo
     data_end [] = (_, refl)
     data_end (first ∷ rest) = (_, refl)
 
+    -- the answer of the zone at a name that is quiet above ends the walk, for each type
     pub ends_in : (rtype : RrType) → EndsInZone zone name rtype
     ends_in rtype = by (deciding zone name) decides where
       records : (owner : Labels) (b : Bool) → first_name (targets_at zone owner types.Cname) ≡ None

@@ -22,26 +22,26 @@ data_lead at_origin rdata = false
 abbrev pub leads_on : Zone → Rr → Bool
 leads_on zone rr = data_lead (name_eq rr.owner zone.origin) rr.rdata
 
--- its owner, if it may
+-- the owner of a record that may lead names on, or nothing for any other record
 abbrev pub leading_owner : Zone → Rr → List Labels
 leading_owner zone rr = if leads_on zone rr then rr.owner ∷ [] else []
 
--- the owners of such records of a zone
+-- the owners of the records of a zone that may lead names on
 abbrev pub zone_leading : Zone → List Labels
 zone_leading zone = flat_map (leading_owner zone) zone.rrs
 
--- of a server
+-- the owners of the records of a server's zones that may lead names on
 abbrev pub server_leading : Server → List Labels
 server_leading server = flat_map zone_leading server.zones
 
--- of a configuration
+-- the owners of the records of a configuration that may lead names on
 abbrev pub leading_of : Config → List Labels
 leading_of config = flat_map server_leading config.servers
 
--- neither the name nor the asterisk label below it is among the owners
+-- neither the name nor the asterisk label below it is among the owners of records that may lead names on
 abbrev pub IsStill : List Labels → Labels → Type 0
 IsStill owners name = (is_among owners name ≡ false) × (is_among owners (name ++ codes "*" ∷ []) ≡ false)
 
--- so it is of no number of labels at the front of a name
+-- none of the name's prefixes of at most so many labels, nor the asterisk label below one, is among the owners
 abbrev pub IsStillAbove : List Labels → Labels → ℕ → Type 0
 IsStillAbove owners name bound = (count : ℕ) → count ≤ bound → IsStill owners (take count name)

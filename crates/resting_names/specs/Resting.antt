@@ -41,6 +41,6 @@ abbrev pub gives_by : Labels → Option Zone → Bool
 gives_by name None = true
 gives_by name (Some zone) = answers_address zone name
 
--- the server does
+-- the server of this name gives an address for the name, or leads out of what is configured
 abbrev pub gives_at : Config → Labels → Labels → Bool
 gives_at config name server = gives_by name (nearest_of config server name)

@@ -43,7 +43,7 @@ module _ (setting : Setting) (query : Labels) (class : Class) (represents : Bool
       let end = end_of_walk graph rtype setting query for.is_graph for.exact walk is in
       subst (EndsIn graph rtype) (sym end.leaf_is) (end.at, end.node, end.has.here, (end.number, End end.hop end.leaf, end.has.there, (end.hop, refl)))
 
-  -- where two such ends differ, the query shows it
+  -- if two authoritative ends of the graph differ, the query shows differing answers with the type
   pub differ_shown : Differ graph rtype → Shows (with_sets setting) query rtype (Answers class rtype)
   differ_shown differ =
       let one = walk_in differ.one differ.ends_in_one in
@@ -73,7 +73,7 @@ module _ (setting : Setting) (query : Labels) (class : Class) (represents : Bool
   two_walks other_class t (one ∷ other ∷ []) show = record { one = one; other = other; walks_are = refl; show = show }
   two_walks other_class t (one ∷ other ∷ third ∷ walks) show = absurd show
 
-  -- what the query shows is of its class and this type, and two such ends differ
+  -- the differing answers that the query shows are of its class and this type, and two authoritative ends differ
   pub record IsOfAnswers (other_class : Class) (t : RrType) : Type 0 where
     pub class_is : other_class ≡ class
     pub type_is : t ≡ rtype
@@ -127,7 +127,7 @@ is_another than leaf told differ = and_from (is_authoritative leaf) (not (answer
   by false e = refl
 
 module _ (graph : PlainGraph) (rtype : RrType) where
-  -- one and then another that differs from it
+  -- an authoritative end, and another that tells another thing, are two that differ
   pub two_differ : (one other : Leaf) → EndsIn graph rtype one → is_other leaves.Outside one ≡ true → EndsIn graph rtype other → is_other one other ≡ true
       → Differ graph rtype
   two_differ one other in_one tells_one in_other tells_other =
@@ -141,11 +141,11 @@ module _ (graph : PlainGraph) (rtype : RrType) where
         differ = tells_another one other tells_other;
       }
 
-  -- where none is authoritative, none differ
+  -- if no end of the graph is authoritative, no two authoritative ends differ
   pub none_differ : ((leaf : Leaf) → EndsIn graph rtype leaf → is_other leaves.Outside leaf ≡ false) → Differ graph rtype → ⊥
   none_differ none differ = true≢false (sym (tells_other_than_none differ.one differ.tells_one) ∙ none differ.one differ.ends_in_one)
 
-  -- nor where all tell the same as one
+  -- if all authoritative ends tell the same as one, no two differ
   pub all_same : (first : Leaf) → ((leaf : Leaf) → EndsIn graph rtype leaf → is_other first leaf ≡ false) → Differ graph rtype → ⊥
   all_same first none differ = by (answer_eq first differ.one) refl where
     by : (b : Bool) → answer_eq first differ.one ≡ b → ⊥
@@ -156,7 +156,7 @@ module _ (graph : PlainGraph) (rtype : RrType) where
         let same : first ≡ differ.one = same_answers first differ.one e in
         true≢false (sym (is_another first differ.other differ.tells_other (λ equal. differ.differ (sym same ∙ equal))) ∙ none differ.other differ.ends_in_other)
 
-  -- so where the search for another than the first finds one, they differ
+  -- two authoritative ends differ exactly if the search for one that tells another thing than the first finds one
   pub differ_by : (first : Leaf) → EndsIn graph rtype first → is_other leaves.Outside first ≡ true → (found : Option (Bor Leaf))
       → MatchOption found ((leaf : Leaf) → EndsIn graph rtype leaf → is_other first leaf ≡ false) (λ leaf. EndsIn graph rtype leaf.now × (is_other first leaf.now ≡ true))
       → (is_some found ≡ true) ↔ Differ graph rtype

@@ -72,7 +72,7 @@ module _ (setting : Setting) (query : Labels) (class : Class) (represents : Bool
       }
   collected rtype fault kind shows = cc
 
-  -- these are the faults
+  -- the first types of what was seen are those of the faults of rewrites that the query shows
   pub are_shown : AreShownOf (with_sets setting) query is_of_rewrites shown
   are_shown =
       all_shown_of (with_sets setting) query is_of_rewrites seen shown firsts (λ entry has. (right entry has).kind) (λ entry has. (right entry has).shows) collected
@@ -80,11 +80,11 @@ module _ (setting : Setting) (query : Labels) (class : Class) (represents : Bool
 -- ---- the faults of types, put one after the other
 
 module _ (class : Class) (graph : PlainGraph) where
-  -- for no type nothing is put
+  -- for no type no fault of differing answers is put
   pub none_put : (old : List Seen) → PutsAnswers class graph [] old old
   none_put old = record { kept = λ s has. has; from = λ s has. inl has; all = λ t none differ. absurd (none_in_nil t none) }
 
-  -- what is put for some types, and then for one more, is put for all of them
+  -- the faults of differing answers that are put for some types, and then for one more, are put for all of them
   pub more_put : (ts : List RrType) (t : RrType) (old mid new : List Seen) → PutsAnswers class graph ts old mid → PutsAnswers class graph (t ∷ []) mid new
       → PutsAnswers class graph (ts ++ t ∷ []) old new
   more_put ts t old mid new one other =
@@ -100,7 +100,7 @@ module _ (class : Class) (graph : PlainGraph) where
         ];
       }
 
-  -- of one type: the fault is put, or answers don't differ
+  -- the fault of one type is put, if answers differ with it
   pub one_put : (t : RrType) (old new : List Seen) → new ≡ old ++ answers_of class t ∷ [] → Differ graph t → PutsAnswers class graph (t ∷ []) old new
   one_put t old new is differ =
       subst (PutsAnswers class graph (t ∷ []) old) (sym is)
@@ -118,7 +118,8 @@ module _ (class : Class) (graph : PlainGraph) where
 
 -- ---- the whole
 
--- the ends, then the answers, then the first types
+-- the faults seen at ends, then those of differing answers, with their first types, are the faults of rewrites that the
+-- query shows
 pub wholly : (class : Class) (represents : Bool) (graph : PlainGraph) (none ends seen shown : List Seen) → none ≡ []
     → ends ≡ none ++ seen_by (end_faults represents) graph → PutsAnswers class graph types ends seen → AreFirstTypes seen shown
     → (setting : Setting) (query : Labels) → IsGraphFor setting query class represents graph → AreShownOf (with_sets setting) query is_of_rewrites shown

@@ -21,11 +21,11 @@ is_other than leaf = is_authoritative leaf && not (answer_eq than leaf)
 abbrev pub BranchEndsIn : Branch → Leaf → Type 0
 BranchEndsIn branch leaf = (hop : Option Hop) × (branch ≡ End hop leaf)
 
--- a branch of the node for the type does
+-- a branch of the node for the type ends in the leaf
 abbrev pub NodeEndsIn : Node → RrType → Leaf → Type 0
 NodeEndsIn node rtype leaf = (number : ℕ) × (branch : Branch) × (slice_get (branches_of node rtype) number ≡ Some branch) × BranchEndsIn branch leaf
 
--- a branch of some node of the graph does
+-- a branch of some node of the graph for the type ends in the leaf
 abbrev pub EndsIn : PlainGraph → RrType → Leaf → Type 0
 EndsIn graph rtype leaf = (at : ℕ) × (node : Node) × (slice_get graph.nodes at ≡ Some node) × NodeEndsIn node rtype leaf
 
@@ -43,7 +43,7 @@ pub record Differ (graph : PlainGraph) (rtype : RrType) : Type 0 where
 abbrev pub answers_of : Class → RrType → Seen
 answers_of class rtype = record { fault = Answers class rtype; rtype = rtype }
 
--- such faults are put behind others, for those of the types with which answers differ
+-- the class's faults of differing answers are put behind others, for those of the types with which answers differ
 pub record PutsAnswers (class : Class) (graph : PlainGraph) (types : List RrType) (old new : List Seen) : Type 0 where
   pub kept : (seen : Seen) → Contains old seen → Contains new seen
   pub from : (seen : Seen) → Contains new seen → Contains old seen ⊎ ((seen ≡ answers_of class seen.rtype) × Differ graph seen.rtype)

@@ -21,7 +21,7 @@ abbrev pub EndsOver : {T : Type 0} → List ℕ → (FilesTold → Reading T) �
 EndsOver meta reading of_value told before after ending =
     EndsOrFails (OfReading meta of_value (reading told) ending) (ComesToFile reading told) before after ending
 
--- how it ends where nothing is read
+-- how a run over the files of this metadata file ends if it gives nothing of what was read
 abbrev pub EndsWithout : {T : Type 0} → List ℕ → (FilesTold → Reading T) → FilesTold → (List ℕ → ℕ) → (List ℕ → ℕ) → Ending → Type 0
 EndsWithout meta reading told before after ending =
     EndsOrFails ((fault : LoadFault) × (reading told ≡ Refuses fault) × (ending ≡ refused meta fault)) (ComesToFile reading told) before after ending

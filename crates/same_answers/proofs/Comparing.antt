@@ -50,7 +50,7 @@ module _ (config : Config) (rewrites : ℕ) (ground : Ground) (covers : Covers g
       (subst (λ (set : List Labels). IsBoundedWith (following config rewrites set) query rtype)
       (one_in_force config rewrites bounded.followed followed bounded.in_force in_force) (bounded.bounded rtype))
 
-  -- and the two have the same outcomes
+  -- a query and its class's representative have the same outcomes, if the query is bounded
   pub outcomes_too : (rtype : RrType) (outcome : Option Leaf)
       → HasOutcomeIn config rewrites query rtype outcome ↔ HasOutcomeIn config rewrites representative rtype outcome
   outcomes_too rtype outcome = (
@@ -67,7 +67,7 @@ module _ (two : Compared) where
   pub covers_second : Covers (joint two) two.second
   covers_second = joined_covers (two.first ∷ two.second ∷ []) [] two.second (has_later two.first (two.second ∷ []) two.second (has_first two.second []))
 
-  -- so the first of them with it is a subject of all names
+  -- the first of two configurations under their joint ground is a subject of all names
   pub is_covering : IsCovering (at_all_names two.first two.rewrites (joint two))
   is_covering = record { covers = covers_first; in_tree = root_in_tree two.first (joint two) covers_first }
 
@@ -77,7 +77,7 @@ module _ (two : Compared) where
       let part = class_of_name (at_all_names two.first two.rewrites (joint two)) is_covering class query is (is_prefix_told [] query (query, refl)) of_class in
       (part.named, part.is_name)
 
-  -- and its representative is a name
+  -- the representative of a class of the joint tree is a name
   pub representative_is_name : (class : Class) (query : Labels) → IsInTree (joint two) (class_name class) → IsRepresentative (joint two) class query → IsName query
   representative_is_name (Exact alone) query in_tree same = subst IsName (sym same) in_tree.1
   representative_is_name (Below above) query in_tree stands = stands.is_name

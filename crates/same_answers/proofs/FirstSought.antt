@@ -72,6 +72,8 @@ module _ (two : Compared) (sought : Sought) where
           first = λ other also told of_name ends sought_too. exact_first name other of_name;
         }
 
+    -- if the end of the class of the name alone isn't sought and that of the class below is, the latter is the first sought
+    -- at the name
     pub found_below : (exact end : PairEnd) → IsPairEnd two name exact → is_sought sought exact ≡ false → IsBelowEnd two name (Some end)
         → is_sought sought end ≡ true → (query : Labels) → IsRepresentative (joint two) (Below name) query
         → IsFirstSoughtAt two sought name (record { query = query; end = end })
@@ -91,7 +93,8 @@ module _ (two : Compared) (sought : Sought) where
         first (Below above) query end of_name ends sought_too less =
             never_before_itself name_cmp names_total name (subst (λ (n : Labels). name_cmp n name ≡ Less) of_name less)
 
-    -- what stands for the class below it
+    -- if the end of the class below a name is the first sought, what stands for that class is the first sought at the
+    -- name
     pub below_found : (exact end : PairEnd) → IsPairEnd two name exact → is_sought sought exact ≡ false → IsBelowEnd two name (Some end)
         → is_sought sought end ≡ true → (found : Option SoughtClass) → IsFoundBelow two name end found → IsSoughtAt two sought name found
     below_found exact end is e (also, stands, told) holds None none = absurd (none also stands)
@@ -117,13 +120,13 @@ module _ (two : Compared) (sought : Sought) where
     is_of_tree : (class : Class) (found : SoughtClass) → IsSought class found → IsInPart (joint two) [] (class_name class)
     is_of_tree class found (ends, holds) = record { named = ends.is_class.0; is_name = ends.is_class.1; within = refl }
 
-    -- where it is told of no class of any name, it is told of none
+    -- if what is sought is told of no class of any row's name, it is told of no class
     pub none_of_rows : ((k : ℕ) (d : TreeRow W PairEnd) → k < length rows → NoneSoughtAt two sought (get_or rows k d).item) → NoneSought two sought
     none_of_rows none class query end ends holds =
         none_in_rows rows are IsSought is_of_tree (λ k d within other found of_name is. none k d within other found.query found.end of_name is.0 is.1)
         class (record { query = query; end = end }) (ends, holds)
 
-    -- and the first of the first name is the first
+    -- the first class sought of the first row's name at which there is one is the first of all
     pub first_of_rows : (i : ℕ) (e : TreeRow W PairEnd) → i < length rows
         → ((k : ℕ) (d : TreeRow W PairEnd) → k < i → NoneSoughtAt two sought (get_or rows k d).item)
         → (found : SoughtClass) → IsFirstSoughtAt two sought (get_or rows i e).item found → IsFirstSought two sought found
@@ -141,11 +144,11 @@ module _ (two : Compared) (sought : Sought) where
 -- ---- what the search for classes tells
 
 module _ (two : Compared) where
-  -- where none passes is found, none passes
+  -- if the search finds no class whose representative reaches too many pairs, there is none
   pub none_passes : NoneSought two sought_as.Passed → SomeClassPassesInOne two → ⊥
   none_passes none (class, query, it) = none class query StatesPassed (record { is_class = it.is_class; represents = it.represents; is_end = it.passes }) refl
 
-  -- and the one that is found is the first
+  -- the class that the search for passing representatives finds is the first of them
   pub passed_first : (found : SoughtClass) → IsFirstSought two sought_as.Passed found → IsFirstPassedInOne two found.query
   passed_first found is = by found.end is.is is.ends where
     by : (end : PairEnd) → is_sought sought_as.Passed end ≡ true → ClassEnds two is.class found.query end → IsFirstPassedInOne two found.query
@@ -169,7 +172,7 @@ module _ (two : Compared) where
     apart_told class query apart Unbounded is = absurd (is.1 apart.bounded)
     apart_told class query apart Equal is = absurd (apart.differ.1 ((is.1 learnt).1 apart.differ.0))
 
-    -- so where none is apart, all are alike
+    -- if the search finds no class with other outcomes in the two configurations, all classes have the same
     pub all_same : NoneSought two sought_as.Apart → ClassesAlike two
     all_same none class query in_tree stands bounded =
         let (end, is) = end_exists two query in by end is
@@ -180,7 +183,7 @@ module _ (two : Compared) where
         by Unbounded is = absurd (is.1 bounded)
         by (Apart rtype) is = absurd (none class query (Apart rtype) (record { is_class = in_tree; represents = stands; is_end = is }) refl)
 
-    -- and the one that is found is the first difference
+    -- the class that the search for other outcomes finds is the first difference
     pub apart_first : (query : Labels) (rtype : RrType) → IsFirstSought two sought_as.Apart (record { query = query; end = Apart rtype })
         → IsFirstDifference two query rtype
     apart_first query rtype is =
@@ -199,7 +202,7 @@ module _ (two : Compared) where
           first_type = is.ends.is_end.2;
         }
 
-    -- which is what is told
+    -- what is told of the first class with other outcomes is what is told of the two configurations
     pub told_apart : (found : SoughtClass) (sameness : Sameness) → IsFirstSought two sought_as.Apart found → IsApartBy found sameness → IsSameness two sameness
     told_apart found sameness is (rtype, end, told) =
         subst (IsSameness two) (sym told)

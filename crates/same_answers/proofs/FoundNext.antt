@@ -22,7 +22,7 @@ none_more {X = X} test (y ∷ xs) x none fails = by (test y) none (λ rest. none
   by true none rest = cc
   by false none rest = rest none
 
--- and none is found up to it, where it doesn't
+-- if no item so far is found and the next one fails the test, none up to it is found
 pub none_next : {X : Type 0} (test : X → Bool) (xs : List X) (i : ℕ) (d : X) → i < length xs → find test (take i xs) ≡ None → test (get_or xs i d) ≡ false
     → find test (take (i + 1) xs) ≡ None
 none_next test xs i d less none fails = ap (find test) (take_more xs i d less) ∙ none_more test (take i xs) (get_or xs i d) none fails

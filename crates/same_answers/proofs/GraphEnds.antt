@@ -41,7 +41,7 @@ pub place_of_overlong : (leaf : Leaf) → is_overlong leaf ≡ true → (place :
 place_of_overlong (Overlong place) e = (place, refl)
 place_of_overlong leaf e = cc
 
--- two ends have one outcome exactly where they tell the same, or neither tells anything
+-- two ends have the same outcome exactly if they tell the same, or neither tells anything
 pub one_outcome : (a b : Leaf) → (outcome_eq a b ≡ true) ↔ (outcome_of a ≡ outcome_of b)
 one_outcome a b = by (is_authoritative a) (is_authoritative b) refl refl where
   by : (of_a of_b : Bool) → is_authoritative a ≡ of_a → is_authoritative b ≡ of_b
@@ -76,7 +76,7 @@ overlong_by_ends graph rtype =
     (λ node. any_given branch_leaves is_overlong branch_overlong branch_by_ends (branches_of node rtype)) graph.nodes
 
 module _ (setting : Setting) (query : Labels) (graph : PlainGraph) (is : IsGraphOf setting query graph) (exact : IsExactIn setting query graph) (rtype : RrType) where
-  -- a walk ends in one of the ends
+  -- each walk of the query ends in one of the graph's ends
   pub end_there : (walk : Walk) → IsWalk setting query rtype walk → Contains (leaves_of graph rtype) walk.leaf
   end_there walk is_walk =
       let end = end_of_walk graph rtype setting query is exact walk is_walk in
@@ -85,7 +85,7 @@ module _ (setting : Setting) (query : Labels) (graph : PlainGraph) (is : IsGraph
       (flat_map_has branch_leaves (branches_of end.node rtype) (End end.hop end.leaf) end.leaf
       (item_there (branches_of end.node rtype) end.number (End end.hop end.leaf) end.has.there) (has_first end.leaf [])))
 
-  -- and in each of the ends a walk ends
+  -- each of the graph's ends is that of a walk of the query
   pub end_from : (leaf : Leaf) → Contains (leaves_of graph rtype) leaf → (walk : Walk) × IsWalk setting query rtype walk × (walk.leaf ≡ leaf)
   end_from leaf has =
       let (node, among, in_node) = from_flat_map (node_leaves rtype) graph.nodes leaf has in
@@ -103,7 +103,7 @@ module _ (setting : Setting) (query : Labels) (graph : PlainGraph) (is : IsGraph
           let same : last ≡ leaf = elim (first_or_later last [] leaf in_branch) [ inl equal ↦ equal | inr none ↦ absurd (none_in_nil leaf none) ] in
           (ends.walk, ends.is_walk, ends.leaf_is ∙ same)
 
-  -- so with the type the query is bounded exactly where the graph doesn't end in a name that is too long
+  -- with the type the query is bounded exactly if the graph doesn't end in a name that is too long
   pub bounded_with : (graph_overlong graph rtype ≡ false) ↔ IsBoundedWith setting query rtype
   bounded_with = (
     λ none walk place is_walk e.
@@ -118,7 +118,7 @@ module _ (setting : Setting) (query : Labels) (graph : PlainGraph) (is : IsGraph
         let (place, overlong) = place_of_overlong leaf e in
         absurd (bounded walk place is_walk (leaf_is ∙ overlong))
 
-  -- and its outcomes are those of the ends
+  -- the outcomes of the query with the type are those of the graph's ends
   pub outcome_there : (outcome : Option Leaf) → HasOutcome setting query rtype outcome ↔ ((leaf : Leaf) × Contains (leaves_of graph rtype) leaf × (outcome_of leaf ≡ outcome))
   outcome_there outcome = (
     λ (walk, is_walk, told). (walk.leaf, end_there walk is_walk, told),
@@ -140,7 +140,7 @@ bounded_by_ends setting query graph is exact = (
   negated true e = absurd (true≢false (sym e))
   negated false e = refl
 
--- each of the ends has the outcome of one of the others exactly where each outcome that they have the others have
+-- the test of outcomes passes exactly if the others have each outcome that the ends have
 pub within_by_ends : (some others : List Leaf)
     → (are_within some others ≡ true) ↔ ((leaf : Leaf) → Contains some leaf → (other : Leaf) × Contains others other × (outcome_of other ≡ outcome_of leaf))
 within_by_ends some others = (

@@ -59,7 +59,7 @@ module _ (two : Compared) where
       let rtype : r ≡ t = one_first two b r t (subst (λ (name : Labels). IsFirstApart two name r) query one.first_type) other.first_type in
       ap (λ (name : Labels). told.Apart name r) query ∙ ap (λ (other : RrType). told.Apart b other) rtype
 
-  -- two configurations have one comparison
+  -- two comparisons of the same configurations are equal
   pub one_sameness : (a b : Sameness) → IsSameness two a → IsSameness two b → a ≡ b
   one_sameness (told.Same classes names) (told.Same classes' names') one other =
       let (same_names, same_classes) = one_size (joint two) [] names classes names' classes' one.0 other.0 in

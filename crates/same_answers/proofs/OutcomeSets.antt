@@ -19,7 +19,7 @@ use Rattle.same_answers.specs.Ends.{outcome_eq}
 use Rattle.same_answers.specs.Outcomes.{has_outcome}
 use Rattle.same_answers.specs.declared.outcomes.OutcomeSet.{OutcomeSet}
 
--- where one item fails, not all pass
+-- if one item fails a test, not all items pass it
 pub not_all : {X : Type 0} (test : X → Bool) (xs : List X) (x : X) → Contains xs x → test x ≡ false → list_all test xs ≡ false
 not_all test xs x has fails = by (list_all test xs) refl where
   by : (b : Bool) → list_all test xs ≡ b → b ≡ false

@@ -58,14 +58,14 @@ module _ (config : Config) (rewrites : ℕ) (query : Labels) where
       λ has. record { followed = followed; in_force = in_force; has = has },
     )
 
-  -- the ends of the graph are such
+  -- the ends of a query's graph while the least set is followed have the query's outcomes
   pub ends_of_graph : (graph : PlainGraph) → IsLeastGraph config rewrites query graph → (rtype : RrType) → AreEndsOf rtype (leaves_of graph rtype)
   ends_of_graph graph least rtype outcome =
       let in_one = in_setting rtype least.followed least.in_force outcome in
       let by_ends = outcome_there (following config rewrites least.followed) query graph least.is_graph least.exact rtype outcome in
       (λ has. by_ends.0 (in_one.0 has), λ ends. in_one.1 (by_ends.1 ends))
 
-  -- and some are such
+  -- each query has ends that have its outcomes
   pub ends_exist : (rtype : RrType) → (ends : List Leaf) × AreEndsOf rtype ends
   ends_exist rtype =
       let (followed, in_force) = some_in_force config rewrites in
@@ -84,7 +84,7 @@ module _ (config : Config) (rewrites : ℕ) (query : Labels) where
 
   -- ---- whether the query is bounded
 
-  -- it is where its graph is
+  -- a query is bounded exactly if its graph while the least set is followed is
   pub bounded_by_graph : (graph : PlainGraph) → IsLeastGraph config rewrites query graph → (is_bounded graph ≡ true) ↔ IsBoundedIn config rewrites query
   bounded_by_graph graph least =
       let by_ends = bounded_by_ends (following config rewrites least.followed) query graph least.is_graph least.exact in (
@@ -133,7 +133,7 @@ module _ (config : Config) (rewrites : ℕ) (query : Labels) where
 
 module _ (two : Compared) (query : Labels) (rtype : RrType) (some others : List Leaf)
     (of_first : AreEndsOf two.first two.rewrites query rtype some) (of_second : AreEndsOf two.second two.rewrites query rtype others) where
-  -- they have where their ends do
+  -- a query has the same outcomes in two configurations exactly if its ends in them have
   pub alike_by_ends : (are_alike some others ≡ true) ↔ AnswersAlike two query rtype
   alike_by_ends = (there, back) where
     there : are_alike some others ≡ true → AnswersAlike two query rtype

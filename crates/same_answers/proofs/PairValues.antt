@@ -33,7 +33,7 @@ module _ (two : Compared) where
   abbrev pub children_of : Labels → List Labels
   children_of = items.children_of (joint two) joint_closed
 
-  -- none is a child of two
+  -- no name is one label below two names of the joint class tree
   pub apart : ParentsApart [] children_of
   apart = items.parents_apart (joint two) [] children_of (items.children_are (joint two) joint_closed)
 

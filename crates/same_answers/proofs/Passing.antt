@@ -10,7 +10,7 @@ use Rattle.same_answers.specs.Passed.{SomeClassPassesInOne}
 use Rattle.same_answers.specs.Verdict.{SomeServerPassesInOne}
 use Rattle.same_answers.proofs.Comparing.{covers_first, covers_second}
 
--- what follows on either way
+-- what follows from a value and from an error of a result follows from the result
 pub either_way : {A B : Type 0} {P : A → Type 0} {Q : B → Type 0} {G : Type 0} (result : Result A B) → IfOk result P → IfErr result Q
     → ((a : A) → P a → G) → ((b : B) → Q b → G) → G
 either_way (Ok a) ok err there back = there a ok

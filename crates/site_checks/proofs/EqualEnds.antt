@@ -50,6 +50,6 @@ end_itself a =
     and_from (type_eq a.rtype a.rtype && name_eq a.server a.server) (leaf_eq a.leaf a.leaf)
     (and_from (type_eq a.rtype a.rtype) (name_eq a.server a.server) (eq-eqb (number_of a.rtype) (number_of a.rtype) refl) (name_itself a.server)) (leaf_itself a.leaf)
 
--- two ends are equal by the test exactly where they are one
+-- the test of equal ends passes exactly if the ends are the same
 pub end_decides : (a b : TypedEnd) → (end_eq a b ≡ true) ↔ (a ≡ b)
 end_decides a b = (same_end a b, λ e. subst (λ (other : TypedEnd). end_eq a other ≡ true) e (end_itself a))

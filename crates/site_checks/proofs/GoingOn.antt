@@ -32,7 +32,7 @@ near_at_start setting query state has =
     let cut : state.cut ≡ 0 = ap (λ (s : State). s.cut) (sym from.2) in
     λ zone nearest. omega (arith, cut)
 
--- they come to each start
+-- walks come to each start of the graph
 pub start_met : (setting : Setting) (query : Labels) (graph : PlainGraph) (at : ℕ) → IsGraphOf setting query graph → Contains graph.starts at → IsMet graph at
 start_met setting query graph at is has =
     let place = place_of_item graph.starts at has in
@@ -83,7 +83,7 @@ later_node setting query graph rtype is at number to hop node has near =
 left_is : (graph : PlainGraph) (at : ℕ) (node : Node) → slice_get graph.nodes at ≡ Some node → left_after graph at ≡ nodes_after graph.nodes node.state
 left_is graph at node here = ap (λ (found : Option Node). option_map_or (λ (n : Node). nodes_after graph.nodes n.state) found 0) here
 
--- a branch of a node that they come to goes on to such a node, with fewer nodes left
+-- walks come to the node to which a branch goes on, with fewer nodes left
 pub record Onward (graph : PlainGraph) (at to : ℕ) : Type 0 where
   pub met : IsMet graph to
   pub fewer : left_after graph to < left_after graph at
@@ -106,7 +106,7 @@ few_left graph at met =
 
 -- ---- the ends of a node are those of its branches
 
--- two functions that give the same of each item of a list give the same of the list
+-- two functions that agree on the items of a list give the same of the list
 pub flat_map_same : {X Y : Type 0} (f g : X → List Y) (xs : List X) → ((x : X) → Contains xs x → f x ≡ g x) → flat_map f xs ≡ flat_map g xs
 flat_map_same f g [] same = refl
 flat_map_same f g (x ∷ xs) same =
@@ -129,7 +129,7 @@ module _ (graph : PlainGraph) (rtype : RrType) where
         let on = goes_on graph rtype at place.0 to hop met (record { here = met.here; there = place.1 }) in
         same to on.met on.fewer
 
-  -- however many nodes more are allowed, the paths are the same
+  -- the ends from a node that walks come to are the same for any two depths that are larger than the nodes left
   pub stable : (depth deeper at : ℕ) → left_after graph at < depth → left_after graph at < deeper → IsMet graph at
       → ends_within depth graph rtype at ≡ ends_within deeper graph rtype at
   stable zero deeper at some more met = absurd (omega arith)
@@ -164,7 +164,7 @@ module _ (graph : PlainGraph) (rtype : RrType) (at : ℕ) (met : IsMet graph at)
   same_node : node ≡ met.node
   same_node = same_item (slice_get graph.nodes at) node met.node here met.here
 
-  -- a branch of the node that goes on
+  -- a branch that goes on from a node that walks come to leads on to such a node, with fewer nodes left
   pub on_from : (i to : ℕ) (hop : Hop) (branch : Branch) → i < length branches → branch ≡ get_or branches i branch → branch ≡ Go hop to → Onward graph at to
   on_from i to hop branch within is goes =
       goes_on graph rtype at i to hop met (record {
@@ -176,7 +176,7 @@ module _ (graph : PlainGraph) (rtype : RrType) (at : ℕ) (met : IsMet graph at)
             ∙ ap (λ (b : Branch). Some b) (sym is ∙ goes);
       })
 
-  -- all of its branches
+  -- the ends of all branches of a node are those of the node
   pub whole_node : flat_map (ends_by (ends_from graph rtype) rtype node.state) branches ≡ ends_from graph rtype at
   whole_node =
       ap (flat_map (ends_by (ends_from graph rtype) rtype node.state)) are

@@ -35,12 +35,12 @@ module _ {X : Type 0} (eq : X → X → Bool) (decides : (a b : X) → (eq a b �
 
   -- ---- several in turn
 
-  -- what is in a list still is when items are put behind it, each unless it is there
+  -- what is in a list stays when items are put behind it, each unless it is there
   pub kept : (items more : List X) (x : X) → Contains items x → Contains (fold (with_new eq) items more) x
   kept items [] x has = has
   kept items (item ∷ more) x has = kept (with_new eq items item) more x (kept_behind items item x has)
 
-  -- each of the items that are put behind a list, unless they are there, is then in it
+  -- each item that is put behind a list, unless it is there, is in the list then
   pub added : (items more : List X) (x : X) → Contains more x → Contains (fold (with_new eq) items more) x
   added items [] x has = absurd (none_in_nil x has)
   added items (item ∷ more) x has =
@@ -50,7 +50,7 @@ module _ {X : Type 0} (eq : X → X → Bool) (decides : (a b : X) → (eq a b �
         | inr later ↦ added (with_new eq items item) more x later
       ]
 
-  -- items that are there change nothing
+  -- putting items that are there behind a list, each unless it is there, changes nothing
   pub all_there : (items more : List X) → ((x : X) → Contains more x → Contains items x) → fold (with_new eq) items more ≡ items
   all_there items [] each = refl
   all_there items (item ∷ more) each =
@@ -107,6 +107,6 @@ module _ {X : Type 0} (eq : X → X → Bool) (decides : (a b : X) → (eq a b �
       by true false e = cc
       by false true e = cc
 
-  -- items put one by one behind none are those, each once
+  -- items put behind an empty list, each unless it is there, are the distinct items
   pub once : (items : List X) → fold (with_new eq) [] items ≡ distinct eq items
   once items = once_behind [] [] items (record { there = λ x has. has; back = λ x has. has })

@@ -48,11 +48,11 @@ module _ (ends : List TypedEnd) (places : Places) (listed : ListsPlaces places e
 
 -- ---- ends that are listed
 
--- none has to be at first
+-- at first there is no end whose place has to be listed
 pub none_listed : (places : Places) → ListsPlaces places []
 none_listed places place end at = absurd cc
 
--- what is listed besides changes nothing
+-- places of ends stay listed when more places are listed
 pub still_listed : (ends : List TypedEnd) (old new : Places) → ListsPlaces old ends
     → ((name : Labels) (other : ℕ) → Contains (places_of old name) other → Contains (places_of new name) other) → ListsPlaces new ends
 still_listed ends old new listed stays place end at = stays end.server place (listed place end at)
@@ -68,7 +68,7 @@ at_push (first ∷ ends) end other (suc place) e =
       | inr (last, same) ↦ inr (ap suc last, same)
     ]
 
--- an end more, whose place is listed
+-- places of ends stay listed with an end more, whose place is listed
 pub listed_more : (places : Places) (ends : List TypedEnd) (end : TypedEnd) → ListsPlaces places ends → Contains (places_of places end.server) (length ends) → ListsPlaces places (ends ++ end ∷ [])
 listed_more places ends end listed has place other at =
     elim (at_push ends end other place at) [
@@ -79,7 +79,7 @@ listed_more places ends end listed has place other at =
 
 -- ---- places for a server
 
--- what was listed before a place was put behind it still is
+-- places that were listed stay when one is put behind them, or when there is no memory for it
 pub kept_behind : {T E : Type 0} (result : Result T E) (old new : List ℕ) (item : ℕ) → OnOk result (new ≡ old ++ item ∷ []) → OnErr result (new ≡ old)
     → (place : ℕ) → Contains old place → Contains new place
 kept_behind (Ok done) old new item ok err place has = subst (λ (places : List ℕ). Contains places place) (sym ok) (Contains-append_left old (item ∷ []) place has)
@@ -97,11 +97,11 @@ module _ (name : Labels) (listed : List ℕ) (old new : Places) (is : (other : L
       by true = refl
       by false = refl
 
-  -- they are listed for it
+  -- places that are listed for a server stand in the map under its name
   pub listed_there : (place : ℕ) → Contains listed place → Contains (places_of new name) place
   listed_there place has = subst (λ (places : List ℕ). Contains places place) (sym (placed name true (name_itself name))) has
 
-  -- where those of before are among them, what was listed stays
+  -- what was listed stays when a server's places are replaced by more places
   pub listed_stays : ((place : ℕ) → Contains (places_of old name) place → Contains listed place)
       → (other : Labels) (place : ℕ) → Contains (places_of old other) place → Contains (places_of new other) place
   listed_stays keeps other place has = by (name_eq name other) refl where

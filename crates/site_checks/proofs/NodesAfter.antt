@@ -51,7 +51,7 @@ module _ (a b : State) (before : comes_before a b ≡ true) where
   no_more (node ∷ nodes) =
       one_node (comes_before a node.state) (comes_before b node.state) (nodes_after nodes b) (nodes_after nodes a) (carries node) (no_more nodes)
 
-  -- and fewer, where it is the state of one of the nodes
+  -- fewer nodes come after a later state than after an earlier one, if the later is the state of a node
   pub fewer_after : (nodes : List Node) (node : Node) → Contains nodes node → node.state ≡ b → nodes_after nodes b < nodes_after nodes a
   fewer_after [] node has is = absurd (none_in_nil node has)
   fewer_after (first ∷ nodes) node has is = by (first_or_later first nodes node has) (λ later. fewer_after nodes node later is) where
@@ -83,7 +83,7 @@ at_most_all (node ∷ nodes) state = by (comes_before state node.state) (at_most
   by true few = omega arith
   by false few = omega arith
 
--- fewer nodes than all have states that come after that of one of them
+-- fewer nodes than all come after the state of a node
 pub fewer_than_all : (nodes : List Node) (node : Node) → Contains nodes node → nodes_after nodes node.state < length nodes
 fewer_than_all [] node has = absurd (none_in_nil node has)
 fewer_than_all (first ∷ nodes) node has = by (first_or_later first nodes node has) (fewer_than_all nodes node) where

@@ -17,14 +17,14 @@ use Rattle.site_checks.specs.declared.views.TypedEnd.{TypedEnd}
 use Rattle.site_checks.proofs.EqualEnds.{end_decides}
 use Rattle.site_checks.proofs.InOrder.{added, all_there, kept}
 
--- ends put behind others in turn
+-- the ends with others put behind them in turn, each unless it is there
 abbrev pub put : List TypedEnd → List TypedEnd → List TypedEnd
 put ends more = fold (with_new end_eq) ends more
 
 -- ---- what several items give in turn
 
 module _ {X : Type 0} (give : X → List TypedEnd) (xs : List X) (i : ℕ) (ends was : List TypedEnd) (so : was ≡ put ends (flat_map give (take i xs))) where
-  -- what one item more gives
+  -- the ends with those that one item more gives
   pub one_more : (now : List TypedEnd) (x d : X) → i < length xs → x ≡ get_or xs i d → now ≡ put was (give x) → now ≡ put ends (flat_map give (take (i + 1) xs))
   one_more now x d there is next =
       next ∙ ap (λ (w : List TypedEnd). put w (give x)) so
@@ -33,7 +33,7 @@ module _ {X : Type 0} (give : X → List TypedEnd) (xs : List X) (i : ℕ) (ends
       ∙ sym (flat_map-append give (take i xs) (x ∷ []))
       ∙ ap (flat_map give) (ap (λ (y : X). take i xs ++ y ∷ []) is ∙ sym (take_more xs i d there)))
 
-  -- all of them
+  -- if all items are passed, the ends are with those that all give
   pub all_given : length xs ≤ i → was ≡ put ends (flat_map give xs)
   all_given past = so ∙ ap (λ (l : List X). put ends (flat_map give l)) (take_all i xs past)
 

@@ -9,7 +9,7 @@ use Rattle.site_checks.specs.declared.shown.SiteFindings.{SiteFindings}
 use Rattle.site_checks.specs.declared.views.View.{View}
 
 module _ {B : Type 0} (name : B → List ℕ) (held : B → List (List ℕ)) (step : B → List (List ℕ) → View → List (List ℕ)) where
-  -- at first each has seen no view
+  -- before any view is shown no check has seen one
   pub nothing_seen : (all : List B) → AllZip (HasSeen name held step []) all all
   nothing_seen [] = tt
   nothing_seen (b ∷ all) = (record { name_is = refl; step_is = λ found view. refl; held_is = refl }, nothing_seen all)
@@ -30,7 +30,7 @@ module _ {B : Type 0} (name : B → List ℕ) (held : B → List (List ℕ)) (st
         ∙ sym (fold-append (step a) (held a) views more);
   }
 
-  -- some views more
+  -- checks that were shown some views and then some more were shown both
   pub more_seen : (views more : List View) (olds bs cs : List B) → AllZip (HasSeen name held step views) olds bs → AllZip (HasSeen name held step more) bs cs
       → AllZip (HasSeen name held step (views ++ more)) olds cs
   more_seen views more [] [] [] first next = tt
@@ -71,7 +71,7 @@ one_told R [] (b ∷ ys) x y all one = absurd all
 one_told R (a ∷ xs) [] x y all one = absurd all
 one_told R (a ∷ xs) (b ∷ ys) x y all one = (all.0, one_told R xs ys x y all.1 one)
 
--- one more of the list's first items is told
+-- the first items of a list stay beside what is told of them with one more of each
 pub told_more : {A B : Type 0} (R : A → B → Type 0) (xs : List A) (ys now : List B) (i : ℕ) (x : A) (y : B) → i < length xs → x ≡ get_or xs i x → now ≡ ys ++ y ∷ [] → R x y
     → AllZip R (take i xs) ys → AllZip R (take (i + 1) xs) now
 told_more R xs ys now i x y there is pushed one all =

@@ -156,7 +156,7 @@ module _ (setting : Setting) (rtype : RrType) (query : Labels) where
   abbrev pub all_walks : List Walk
   all_walks = total setting rtype (query_settles setting rtype query).0 query
 
-  -- they are all walks of the query
+  -- the listed walks are all walks of the query
   pub are_all : AreWalks setting query rtype all_walks
   are_all = are_walks setting rtype (query_settles setting rtype query).0 query all_walks refl (query_settles setting rtype query).1
 
@@ -170,7 +170,7 @@ module _ (setting : Setting) (query : Labels) (graph : PlainGraph) (is : IsGraph
       ∙ starts_so setting query graph rtype is (settled.0 + length graph.nodes) graph.starts (start setting.config query) is.starts (λ at has. is.all_types at has rtype)
       ∙ ap (map (end_of rtype)) (all_stay setting rtype settled.0 (settled.0 + length graph.nodes) (omega arith) (start setting.config query) settled.1)
 
-  -- and so with all types
+  -- the ends of the graph's paths are those of all walks of the query
   pub all_ends : AreEnds setting query (fold (with_new end_eq) [] (path_ends graph))
   all_ends = record {
     walks = λ rtype. all_walks setting rtype query;

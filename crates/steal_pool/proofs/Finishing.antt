@@ -36,7 +36,7 @@ filed_next h a b t n f a_is b_is =
     lower : (k : ℕ) → k < t + 1 → (t ≡ k → ⊥) → k < t
     lower k low ne = omega (arith, low, ne)
 
--- the refusal of a claim, where it isn't `NoMemory`
+-- the refusal of a claim for a ticket that is gone is what the book says
 pub refused_gone : (said : Option ClaimFault) (fault : ClaimFault) (k : Kept) → (said ≡ Some fault) ⊎ ((fault ≡ NoMemory) × (said ≡ None)) → fault ≡ Gone k → said ≡ Some (Gone k)
 refused_gone said fault k answers is =
     ⊎_elim

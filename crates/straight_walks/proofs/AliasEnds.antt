@@ -24,7 +24,7 @@ data_exist [] e = cc
 data_exist (first ∷ rest) e = cc
 
 module _ (config : Config) (server name : Labels) (rewrites : ℕ) where
-  -- aliases end at a name that is none
+  -- aliases end at a name that the server answers by an owner's records
   pub ends_at_records : (tree : Bor ZoneTree) (owner : ℕ) → IsReply config name server (reply.Records tree owner)
       → IsAliasEnd config server name rewrites (record { tree = tree; owner = owner; rewrites = rewrites })
   ends_at_records tree owner so =
@@ -35,7 +35,7 @@ module _ (config : Config) (server name : Labels) (rewrites : ℕ) where
         along = λ setting rtype state same enough other at named used. ([], omega arith, (so.3 setting rtype state same at named, λ is. absurd (data_exist (sorted_data tree.now.zone (name_of tree.now owner) rtype) is)));
       }
 
-  -- and lead from an alias where they lead from its target
+  -- aliases lead from an alias to the end to which they lead from its target, with one rewrite less before
   pub leads_by_alias : (tree : Bor ZoneTree) (owner : ℕ) (target : Bor Labels) (end : AliasEnd) → IsReply config name server (reply.Alias tree owner target)
       → IsAliasEnd config server target.now (rewrites + 1) end → IsAliasEnd config server name rewrites end
   leads_by_alias tree owner target end so on =
@@ -70,7 +70,7 @@ leaf_is tree owner rtype = ap (λ (one : ZoneOwner). owner_leaf one rtype) (one_
 
 -- to a name, behind rewrites
 module _ (config : Config) (server name : Labels) (rewrites : ℕ) where
-  -- by an owner
+  -- a server that replies with an owner's records answers the name, behind so many rewrites, by this owner
   pub records_behind : (tree : Bor ZoneTree) (owner : ℕ) → IsReply config name server (reply.Records tree owner)
       → AnswersBehind config server name rewrites (answering_by tree.now (Some owner)) rewrites
   records_behind tree owner so setting rtype state same enough at named used = (
@@ -80,7 +80,8 @@ module _ (config : Config) (server name : Labels) (rewrites : ℕ) where
         (so.3 setting rtype state same at named, λ is. absurd (data_exist (sorted_data tree.now.zone (name_of tree.now owner) rtype) is)),
   )
 
-  -- by an alias
+  -- a server that replies with an alias answers the name, behind so many rewrites, by the alias and the end to which it
+  -- leads
   pub alias_behind : (tree : Bor ZoneTree) (owner : ℕ) (target : Bor Labels) (end : AliasEnd) → IsReply config name server (reply.Alias tree owner target)
       → IsAliasEnd config server target.now (rewrites + 1) end
       → AnswersBehind config server name rewrites (alias_answering tree.now owner end.tree.now end.owner) end.rewrites
@@ -111,7 +112,7 @@ module _ (config : Config) (server name : Labels) (rewrites : ℕ) where
 
 -- to the query
 module _ (config : Config) (query server : Labels) where
-  -- by an owner, or without one
+  -- a server whose zone answers by an owner, or without one, answers so with no rewrite
   pub answers_by : (tree : Bor ZoneTree) (owner : Option ℕ) → AnswersAt config query server (zone_owner tree.now owner)
       → AnswersSo config query server (answering_by tree.now owner) 0
   answers_by tree owner so setting rtype above same enough = (
@@ -121,7 +122,7 @@ module _ (config : Config) (query server : Labels) where
         (so setting rtype (state_at config query server above) same refl refl, λ is. refl),
   )
 
-  -- by an alias
+  -- a server that replies with an alias answers the query by the alias and the end to which it leads
   pub alias_answers_so : (tree : Bor ZoneTree) (owner : ℕ) (target : Bor Labels) (end : AliasEnd) → IsReply config query server (reply.Alias tree owner target)
       → IsAliasEnd config server target.now 1 end → AnswersSo config query server (alias_answering tree.now owner end.tree.now end.owner) end.rewrites
   alias_answers_so tree owner target end so on setting rtype above same enough =

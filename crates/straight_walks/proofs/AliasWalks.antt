@@ -31,7 +31,7 @@ ends_by_branch setting rtype state hop leaf outcome has told =
       told,
     )
 
--- and so are rewrites that end in an answer
+-- rewrites from a state that end in an answer are a walk from the state with the answer's outcome
 pub ends_along : (setting : Setting) (rtype : RrType) (leaf : Leaf) (state : State) (behind : List State) → AnswersAlong setting rtype leaf state behind
     → EndsWith setting rtype state (outcome_of leaf)
 ends_along setting rtype leaf state [] (ends, exists) =
@@ -46,7 +46,8 @@ ends_along setting rtype leaf state (to ∷ behind) (place, by_dname, target, go
       told,
     )
 
--- among states that have those behind, each state of the way goes straight where the answer is one of the ends
+-- each state on a way of rewrites to an answer goes straight among states that have those behind it, if the answer is
+-- one of the ends
 pub along_steps : (setting : Setting) (deps : Deps) (ends : StraightEnds) (rtype : RrType) (all : List State) (leaf : Leaf) → is_authoritative leaf ≡ true
     → IsOutcomeOf ends rtype (Some leaf) → (state : State) (behind : List State) → AnswersAlong setting rtype leaf state behind
     → AllByRecursion (Contains all) behind → AllByRecursion (StepsStraight setting deps ends rtype all) (state ∷ behind)

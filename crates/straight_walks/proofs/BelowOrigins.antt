@@ -31,7 +31,8 @@ none_between_itself config name = record { above = begins_itself name; none_long
       let begins = is_prefix_tells longer name inside in
       absurd (omega (arith, more, ap (λ (n : Labels). length n) begins.1, length-append longer begins.0))
 
--- nor between one and a name below another, where none does between any two of them
+-- if no origin stands between a name and one below it, nor between that one and a third below it, none stands between
+-- the first and the third
 pub none_between_further : (config : Config) (upper middle name : Labels) → NoOriginBetween config upper middle → NoOriginBetween config middle name
     → NoOriginBetween config upper name
 none_between_further config upper middle name first second = record { above = above; none_longer = none_longer } where
@@ -81,7 +82,7 @@ module _ (config : Config) (origin name : Labels) (is : NoOriginBetween config o
       ap (λ (z : Option Zone). is_some z)
       (sym (ap (λ (s : Option Server). option_and_then (λ h. zone_with_origin h (origin ++ below)) s) named) ∙ none)
 
-  -- so its nearest zone is that of the origin
+  -- a server's nearest zone for a name below an origin, with no other origin between, is that for the origin
   pub same_nearest : (server : Labels) → nearest_of config server name ≡ nearest_of config server origin
   same_nearest server = by (server_named config server) refl where
     by : (holder : Option Server) → server_named config server ≡ holder

@@ -12,21 +12,21 @@ use Rattle.walk_laws.specs.Outcome.{HasOutcome, outcome_of}
 use Rattle.straight_walks.specs.Searching.{EndsWith, IsComeTo, LeadsOn}
 
 module _ (setting : Setting) (query : Labels) (rtype : RrType) where
-  -- they come to the states in which it begins
+  -- walks of a query come to the states in which it begins
   pub comes_first : (state : State) → Contains (start setting.config query) state → IsComeTo setting query rtype state
   comes_first state has numbers walk e =
       let (at, here) = place_of_item (start setting.config query) state has in
       (walk, (at ∷ numbers, ap (option_and_then (walk_from setting rtype numbers)) here ∙ e), refl)
 
   module _ (state : State) (comes : IsComeTo setting query rtype state) where
-    -- they come on to where a branch leads
+    -- if walks of a query come to a state, they come to each state to which a branch of it leads
     pub comes_on : (to : State) → LeadsOn setting rtype state to → IsComeTo setting query rtype to
     comes_on to (hop, has) numbers walk e =
         let (at, here) = place_of_item (next setting rtype state) (Go hop to) has in
         comes (at ∷ numbers) (led_on state hop walk)
         (ap (branched state (length numbers == 0) (walk_from setting rtype numbers)) here ∙ ap (option_map (led_on state hop)) e)
 
-    -- and the query has the outcome of each walk from there
+    -- if walks of a query come to a state, the query has the outcome of each walk from there
     pub comes_to_end : (outcome : Option Leaf) → EndsWith setting rtype state outcome → HasOutcome setting query rtype outcome
     comes_to_end outcome (numbers, walk, goes, told) =
         let (whole, is_walk, same) = comes numbers walk goes in

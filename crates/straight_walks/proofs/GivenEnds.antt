@@ -50,14 +50,14 @@ module _ (config : Config) (deps : Deps) (rewrites most : ℕ) (query : Labels) 
     by (Ok (Some ends)) straight = so ends straight
     by (Err fault) straight = tt
 
-  -- few pairs of state and type are reached
+  -- a query with known ends reaches few pairs of state and type
   pub few_given : (states : ℕ) → most * 12 ≤ states → IfOk given (λ found. IfSome found (HoldsOfEachTold config query (GoesStraightIn config deps rewrites most)))
       → IfOk given (λ found. IfSome found (λ ends. HasMoreThan (IsReached config rewrites query) states → ⊥))
   few_given states fits =
       by_straight (λ ends. HasMoreThan (IsReached config rewrites query) states → ⊥)
       (λ ends straight. few_states config rewrites deps most query ends (in_all config deps rewrites most query ends (straight query ends (inl (refl, refl)))) states fits)
 
-  -- and by the names of which they are the ends too
+  -- names below the query whose ends are the query's reach few pairs of state and type
   pub few_given_below : (states : ℕ) → most * 12 ≤ states → IfOk given (λ found. IfSome found (HoldsOfEachTold config query (GoesStraightIn config deps rewrites most)))
       → IfOk given (λ found. IfSome found (λ ends. ends.below ≡ true → (name : Labels) → NoOriginBetween config query name
       → HasMoreThan (IsReached config rewrites name) states → ⊥))
@@ -66,7 +66,7 @@ module _ (config : Config) (deps : Deps) (rewrites most : ℕ) (query : Labels) 
       (λ ends straight below name between.
       few_states config rewrites deps most name ends (in_all config deps rewrites most name ends (straight name ends (inr (inl (below, between, refl))))) states fits)
 
-  -- and by it with an unnamed tail, where its ends are known then
+  -- the query with an unnamed tail reaches few pairs of state and type, if its ends are known then
   pub few_given_unnamed : (states : ℕ) → most * 12 ≤ states → IfOk given (λ found. IfSome found (HoldsOfEachTold config query (GoesStraightIn config deps rewrites most)))
       → IfOk given (λ found. IfSome found (λ ends. ends.unnamed_below ≡ true → (tail : Labels) → IsUnnamedTail config query tail
       → HasMoreThan (IsReached config rewrites (query ++ tail)) states → ⊥))
@@ -76,7 +76,7 @@ module _ (config : Config) (deps : Deps) (rewrites most : ℕ) (query : Labels) 
       few_states config rewrites deps most (query ++ tail) (nothing_below ends)
       (in_all config deps rewrites most (query ++ tail) (nothing_below ends) (straight (query ++ tail) (nothing_below ends) (inr (inr (below, (tail, is, refl), refl))))) states fits)
 
-  -- no fault is shown
+  -- a query with known ends shows no fault
   pub nothing_given : IfOk given (λ found. IfSome found (HoldsOfEachTold config query (GoesStraightIn config deps rewrites most)))
       → IfOk given (λ found. IfSome found (λ ends. (rtype : RrType) (fault : Fault)
       → Shows (with_lists (following config rewrites deps.least) deps.least deps.greatest) query rtype fault → ⊥))
@@ -84,7 +84,7 @@ module _ (config : Config) (deps : Deps) (rewrites most : ℕ) (query : Labels) 
       by_straight (λ ends. (rtype : RrType) (fault : Fault) → Shows (with_lists (following config rewrites deps.least) deps.least deps.greatest) query rtype fault → ⊥)
       (λ ends straight. shows_nothing (following config rewrites deps.least) deps most query ends (in_least config deps rewrites most query ends (straight query ends (inl (refl, refl)))))
 
-  -- nor by those names
+  -- names below the query whose ends are the query's show no fault
   pub nothing_given_below : IfOk given (λ found. IfSome found (HoldsOfEachTold config query (GoesStraightIn config deps rewrites most)))
       → IfOk given (λ found. IfSome found (λ ends. ends.below ≡ true → (name : Labels) → NoOriginBetween config query name → (rtype : RrType) (fault : Fault)
       → Shows (with_lists (following config rewrites deps.least) deps.least deps.greatest) name rtype fault → ⊥))
@@ -94,7 +94,7 @@ module _ (config : Config) (deps : Deps) (rewrites most : ℕ) (query : Labels) 
       (λ ends straight below name between.
       shows_nothing (following config rewrites deps.least) deps most name ends (in_least config deps rewrites most name ends (straight name ends (inr (inl (below, between, refl))))))
 
-  -- nor by it with an unnamed tail
+  -- the query with an unnamed tail shows no fault, if its ends are known then
   pub nothing_given_unnamed : IfOk given (λ found. IfSome found (HoldsOfEachTold config query (GoesStraightIn config deps rewrites most)))
       → IfOk given (λ found. IfSome found (λ ends. ends.unnamed_below ≡ true → (tail : Labels) → IsUnnamedTail config query tail → (rtype : RrType) (fault : Fault)
       → Shows (with_lists (following config rewrites deps.least) deps.least deps.greatest) (query ++ tail) rtype fault → ⊥))
@@ -105,14 +105,14 @@ module _ (config : Config) (deps : Deps) (rewrites most : ℕ) (query : Labels) 
       shows_nothing (following config rewrites deps.least) deps most (query ++ tail) (nothing_below ends)
       (in_least config deps rewrites most (query ++ tail) (nothing_below ends) (straight (query ++ tail) (nothing_below ends) (inr (inr (below, (tail, is, refl), refl))))))
 
-  -- the query is bounded
+  -- a query with known ends is bounded
   pub bounded_given : IfOk given (λ found. IfSome found (HoldsOfEachTold config query (GoesStraightIn config deps rewrites most)))
       → IfOk given (λ found. IfSome found (λ ends. (rtype : RrType) → IsBoundedWith (following config rewrites deps.least) query rtype))
   bounded_given =
       by_straight (λ ends. (rtype : RrType) → IsBoundedWith (following config rewrites deps.least) query rtype)
       (λ ends straight. is_bounded (following config rewrites deps.least) deps most query ends (in_least config deps rewrites most query ends (straight query ends (inl (refl, refl)))))
 
-  -- and it has the outcomes of the ends
+  -- a query with known ends has the outcomes of the ends and no others
   pub outcomes_given : IfOk given (λ found. IfSome found (HoldsOfEachTold config query (GoesStraightIn config deps rewrites most)))
       → IfOk given (λ found. IfSome found (λ ends. (rtype : RrType) (outcome : Option Leaf)
       → HasOutcome (following config rewrites deps.least) query rtype outcome ↔ IsOutcomeOf ends rtype outcome))
@@ -120,6 +120,6 @@ module _ (config : Config) (deps : Deps) (rewrites most : ℕ) (query : Labels) 
       by_straight (λ ends. (rtype : RrType) (outcome : Option Leaf) → HasOutcome (following config rewrites deps.least) query rtype outcome ↔ IsOutcomeOf ends rtype outcome)
       (λ ends straight. outcomes_are (following config rewrites deps.least) deps most query ends (in_least config deps rewrites most query ends (straight query ends (inl (refl, refl)))))
 
--- so many times are within a number where so many are within its part
+-- a number is at most a limit when multiplied, if it is at most the limit divided by the same factor
 pub times_fit : (states times most : ℕ) → states ≤ most / times → states * times ≤ most
 times_fit states times most fits = omega (arith, mul-le states times (most / times) times fits (omega arith), div-mul-le_self most times)

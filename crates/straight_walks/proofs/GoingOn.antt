@@ -78,21 +78,21 @@ module _ (config : Config) (deps : Deps) (query : Labels) (cut : Cut) where
 
 -- ---- the name servers of a zone cut
 
--- the name of one more
+-- the names of the name servers up to the next are those before and its name
 pub one_name_more : (items : List (Bor Labels)) (i : ℕ) (item : Bor Labels) → i < length items → item ≡ get_or items i item
     → map (λ (ns : Bor Labels). ns.now) (take (i + 1) items) ≡ map (λ (ns : Bor Labels). ns.now) (take i items) ++ item.now ∷ []
 one_name_more items i item within is =
     ap (map (λ (ns : Bor Labels). ns.now)) (take_more items i item within ∙ (λ j. take i items ++ sym is j ∷ []))
     ∙ map-append (λ (ns : Bor Labels). ns.now) (take i items) (item ∷ [])
 
--- where there are some, their names are some
+-- if there are some name servers, their names are some
 pub some_named : (items : List (Bor Labels)) (names : List Labels) → map (λ (ns : Bor Labels). ns.now) items ≡ names → not (length items == 0) ≡ true → names ≢ []
 some_named [] names is some none = true≢false (sym some)
 some_named (item ∷ items) names is some none = by (is ∙ none) where
   by : item.now ∷ map (λ (ns : Bor Labels). ns.now) items ≡ [] → ⊥
   by e = cc
 
--- states that were queued still are
+-- a queue that was extended twice is the first one extended
 pub extends_further : (first second third : List Queued) → Extends first second → Extends second third → Extends first third
 extends_further first second third one two =
     (one.0 ++ two.0, two.1 ∙ ap (λ (all : List Queued). all ++ two.0) one.1 ∙ append_assoc first one.0 two.0)
@@ -155,7 +155,7 @@ module _ (config : Config) (deps : Deps) (query server : Labels) (zone : Zone) (
   each_ends queue setting above of [] each = tt
   each_ends queue setting above of (ns ∷ rest) each = (inl (refl, each.0 setting (from above) of), each_ends queue setting above of rest each.1)
 
-  -- of name servers, some, at all of which walks end
+  -- if walks end at each of some name servers, the referrals to them all fail
   pub all_that_end : (names : List Labels) → AllByRecursion EndsAt names → names ≢ [] → (queue : List Queued) (fails : Bool)
       → AreReferrals config deps query server zone cut names queue fails queue true
   all_that_end [] each some queue fails = absurd (some refl)
@@ -170,7 +170,7 @@ module _ (config : Config) (deps : Deps) (query server : Labels) (zone : Zone) (
             (hop, leaf, subst (Contains (branches (ns ∷ rest) setting above)) is_end (has_first (branch_to ns setting above) (branches rest setting above)), none));
       }
 
-  -- of no name servers
+  -- a zone cut without name servers has no referrals, so queue and failures stay
   pub no_referrals : (queue : List Queued) (fails : Bool) → AreReferrals config deps query server zone cut [] queue fails queue fails
   no_referrals queue fails =
       record {
@@ -208,7 +208,7 @@ module _ (config : Config) (deps : Deps) (query server : Labels) (zone : Zone) (
       by (inr goes) = inr (λ setting above of.
           let (hop, among) = goes setting above of in (hop, still_among names ns setting above (Go hop (queued_state config query one)) among))
 
-    -- so are they with one name server more, whose referral ends: then walks fail
+    -- if the referral to one name server more ends, walks fail at the zone cut
     pub one_that_ends : IsReferral config deps query (cut_to server zone cut ns) referral.Ends
         → AreReferrals config deps query server zone cut (names ++ ns ∷ []) first fails_first before true
     one_that_ends ends =
@@ -222,7 +222,7 @@ module _ (config : Config) (deps : Deps) (query server : Labels) (zone : Zone) (
               (hop, leaf, subst (Contains (branches (names ++ ns ∷ []) setting above)) is_end (last_among names ns setting above), none));
         }
 
-    -- and with one more to which walks go on
+    -- if the referral to one name server more goes on, its state is queued and the referrals so far stay right
     pub one_to_go_to : (after : List Queued) → Extends before after → Contains (map (queued_state config query) after) (state_at config query ns (length cut))
         → ((one : Queued) → Contains after one → Contains before one ⊎ ((one.server.now ≡ ns) × (one.cut ≡ length cut)))
         → IsReferral config deps query (cut_to server zone cut ns) referral.GoesOn

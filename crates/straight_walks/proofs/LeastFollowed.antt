@@ -13,11 +13,11 @@ use Rattle.net_model.specs.declared.config.Config.{Config}
 use Rattle.net_model.specs.declared.config.Server.{Server}
 use Rattle.straight_walks.specs.Straight.{FollowsLeast}
 
--- where they are
+-- a setting that follows the servers of the least set follows the least set
 pub least_followed : (config : Config) (rewrites : ℕ) (deps : Deps) → FollowsLeast (following config rewrites deps.least) deps
 least_followed config rewrites deps name configured among = among
 
--- where all are
+-- a setting that follows all configured servers follows the least set
 pub all_followed : (config : Config) (rewrites : ℕ) (deps : Deps) → FollowsLeast (following config rewrites (server_names config)) deps
 all_followed config rewrites deps name configured among = by (server_named config name) refl configured where
   by : (named : Option Server) → server_named config name ≡ named → is_some named ≡ true → list_any (name_eq name) (server_names config) ≡ true

@@ -32,13 +32,13 @@ module _ (config : Config) (deps : Deps) (query : Labels) where
   between ends name found (inr (inr unnamed)) =
       let (tail, is, whole) = unnamed.1 in subst (NoOriginBetween config query) (sym whole) (none_between config query tail is)
 
-  -- no walk of such a name is rewritten more often
+  -- the ends of each name of which the query's ends tell have the query's rewrites
   pub same_rewrites : (ends : StraightEnds) (name : Labels) (found : StraightEnds) → AreEndsFor config query ends name found → found.rewrites ≡ ends.rewrites
   same_rewrites ends name found (inl itself) = ap (λ (e : StraightEnds). e.rewrites) itself.1
   same_rewrites ends name found (inr (inl below)) = ap (λ (e : StraightEnds). e.rewrites) below.2
   same_rewrites ends name found (inr (inr unnamed)) = ap (λ (e : StraightEnds). e.rewrites) unnamed.2
 
-  -- a search that has begun
+  -- the states that a search for an origin has passed are passed for each name of which the ends tell
   pub begun : (searched : Search) → IsSearchBelow config deps query searched
       → HavePassed config deps query searched.queue.items searched.passed (unanswered searched.fails)
   begun searched is name found of =
@@ -68,7 +68,7 @@ module _ (config : Config) (deps : Deps) (query : Labels) where
   before_failing ends fails name found (inr (inr unnamed)) = (nothing_below ends, inr (inr (unnamed.0, unnamed.1, refl)), unnamed.2, refl)
 
   module _ (server : Labels) (queue : List Queued) (ends : StraightEnds) where
-    -- one without a zone for the query
+    -- for each name of which the ends tell, walks pass a server without a zone for the query
     pub outside_for : IsReply config query server reply.Outside → (name : Labels) (found : StraightEnds) → AreEndsFor config query (failing ends) name found
         → PassesFor server queue ends (failing ends) name found
     outside_for so name found of =
@@ -79,7 +79,8 @@ module _ (config : Config) (deps : Deps) (query : Labels) where
               (outside_passes config deps name server queue found_before (same_nearest config query name (between ends name found_before of_before) server ∙ so)),
         )
 
-    -- one that refers it by a zone cut at all of whose name servers walks end
+    -- for each name of which the ends tell, walks pass a server that refers the query by a zone cut at all of whose
+    -- name servers they end
     pub ending_for : (tree : Bor ZoneTree) (cut : ℕ) → IsReply config query server (reply.Refers tree cut) → AllEndOutside config tree.now cut
         → (name : Labels) (found : StraightEnds) → AreEndsFor config query (failing ends) name found → PassesFor server queue ends (failing ends) name found
     ending_for tree cut so all name found of =
@@ -95,7 +96,7 @@ module _ (config : Config) (deps : Deps) (query : Labels) where
               all.1 queue found_before.fails)),
         )
 
-    -- one that answers: the query, and it with an unnamed tail where it has nothing there
+    -- for the query, and for it with an unnamed tail if the server has nothing there, walks pass a server that answers
     pub answer_for : (after : StraightEnds) → IsAnswered config query server ends after
         → (name : Labels) (found : StraightEnds) → AreEndsFor config query after name found → PassesFor server queue ends after name found
     answer_for after so name found (inl itself) = (
@@ -118,7 +119,7 @@ module _ (config : Config) (deps : Deps) (query : Labels) where
 
   -- ---- one state more
 
-  -- that a server passes
+  -- for each name of which the ends tell, one queued state more is passed if walks pass its server
   pub one_passed_for : (queue : List Queued) (at : ℕ) (ends_before ends : StraightEnds) (item : Queued) → at < length queue → item ≡ get_or queue at item
       → HavePassed config deps query queue at ends_before
       → ((name : Labels) (found : StraightEnds) → AreEndsFor config query ends name found → PassesFor item.server.now queue ends_before ends name found)
@@ -126,7 +127,7 @@ module _ (config : Config) (deps : Deps) (query : Labels) where
   one_passed_for queue at ends_before ends item within is so one name found of =
       let (found_before, of_before, passes) = one name found of in one_passed config deps name queue queue at found_before found item within is (so name found_before of_before) passes
 
-  -- whose server refers the query
+  -- for each name of which the ends tell, one queued state more is passed if its server refers the query
   pub referral_passed_for : (queue after : List Queued) (at : ℕ) (ends : StraightEnds) (fails : Bool) (tree : Bor ZoneTree) (cut : ℕ) (item : Queued)
       → at < length queue → item ≡ get_or queue at item
       → IfSome (slice_get queue at) (λ one. IsReply config query one.server.now (reply.Refers tree cut)) → HavePassed config deps query queue at ends

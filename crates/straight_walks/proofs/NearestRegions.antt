@@ -69,7 +69,8 @@ module _ (config : Config) (deps : Deps) (regions : List Region) (are : AreRegio
         let inner : is_prefix (origin_of from.0) name ≡ true = ap (λ (n : Labels). is_prefix n name) from.2 ∙ inside in
         absurd (none_longer regions name region nearest from.0 from.1 inner (subst (λ (n : Labels). length (origin_of region) < length n) (sym from.2) more))
 
-  -- so the region's search is one for the name, and for those below it with no origin between
+  -- the search of the region of a name's nearest origin is one for the name, and for names below it with no origin
+  -- between
   pub search_for : IsSearchBelow config deps name region.searched
   search_for query between =
       each_along (IsRegion config deps) regions are.each region (found regions name region nearest).0 query

@@ -15,7 +15,7 @@ use Rattle.dns_data.proofs.Names.{same_names}
 abbrev pub names_of : List (Bor Labels) → List Labels
 names_of names = map (λ name. name.now) names
 
--- what they borrow is in the order of names
+-- the names behind references that stand in order stand in order
 pub names_rise : (names : List (Bor Labels)) → IsStrictlySortedBy borrowed_cmp names → IsStrictlySortedBy name_cmp (names_of names)
 unfolding IsStrictlySortedBy
 names_rise [] sorted = tt
@@ -31,7 +31,7 @@ put_there name (first ∷ names) = by (name_cmp name.now first.now) refl (put_th
   by Equal is rest = subst (λ (n : Labels). Contains (n ∷ names_of names) name.now) (same_names name.now first.now is) (has_first name.now (names_of names))
   by Greater is rest = has_later first.now (names_of (insert_key borrowed_cmp names name)) name.now rest
 
--- and the others still are
+-- the other names of a set stay when a name is put into it
 pub put_kept : (name : Bor Labels) (names : List (Bor Labels)) (other : Labels) → Contains (names_of names) other → Contains (names_of (insert_key borrowed_cmp names name)) other
 put_kept name [] other has = has_later name.now [] other has
 put_kept name (first ∷ names) other has = by (name_cmp name.now first.now) (put_kept name names other) where
@@ -44,7 +44,7 @@ put_kept name (first ∷ names) other has = by (name_cmp name.now first.now) (pu
     put (inl is) = subst (Contains (first.now ∷ names_of (insert_key borrowed_cmp names name))) is (has_first first.now (names_of (insert_key borrowed_cmp names name)))
     put (inr later) = has_later first.now (names_of (insert_key borrowed_cmp names name)) other (rest later)
 
--- what holds of each item so far, and of one more
+-- what holds of each item so far and of the next holds of each item up to it
 pub each_more : {X : Type 0} (P : X → Type 0) (items : List X) (i : ℕ) (item : X) → i < length items → item ≡ get_or items i item
     → ((one : X) → Contains (take i items) one → P one) → P item → (one : X) → Contains (take (i + 1) items) one → P one
 each_more {X = X} P items i item within is each here one has =

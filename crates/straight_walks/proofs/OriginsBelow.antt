@@ -95,10 +95,11 @@ module _ (regions : List Region) (name : Labels) (place : ℕ) where
   abbrev pub IsNextPast : Type 0
   IsNextPast = place + 1 < length (region_origins regions) → IsPastName name (get_or (region_origins regions) (place + 1) [])
 
-  -- it is, or there is none
+  -- if the origin of the next region stands behind the name and all names below it, the next region is past them
   pub next_past : (next : Region) → place + 1 < length regions → next ≡ get_or regions (place + 1) next → IsPastName name (origin_of next) → IsNextPast
   next_past next within is past _ = subst (IsPastName name) (sym (origin_at regions (place + 1) next within is)) past
 
+  -- behind the last region nothing is left that must be past the names below
   pub none_next : length regions ≤ place + 1 → IsNextPast
   none_next short within = absurd (omega (arith, short, within, length-map regions origin_of))
 

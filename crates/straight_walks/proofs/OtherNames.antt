@@ -109,7 +109,7 @@ module _ (config : Config) (deps : Deps) (one other : Labels) (same : (server : 
     all_for setting fails queue [] each = tt
     all_for setting fails queue (branch ∷ rest) each = (goes_for setting fails queue branch each.0, all_for setting fails queue rest each.1)
 
-    -- so are referrals of the name referrals of the other
+    -- referrals of one name are referrals of another for which each server has the same nearest zone
     pub refers_for : (before : List Queued) (fails_before : Bool) (after : List Queued) (fails : Bool)
         → AreReferrals config deps one server zone cut names before fails_before after fails → AreReferrals config deps other server zone cut names before fails_before after fails
     refers_for before fails_before after fails so =

@@ -8,7 +8,7 @@ use Rattle.straight_walks.specs.declared.ends.StraightEnds.{StraightEnds}
 use Rattle.straight_walks.specs.declared.server.Reply.TheVariants as reply
 use Rattle.straight_walks.proofs.Replies.{dname_place, redirected_to, redirection_goes}
 
--- what isn't above a bound is within it
+-- a number that isn't above a bound passes the test for at most the bound
 pub is_within : (most n : ℕ) → (most < n → ⊥) → nat_le n most ≡ true
 is_within most n no_more = by (nat_le n most) refl where
   by : (b : Bool) → nat_le n most ≡ b → nat_le n most ≡ true
@@ -19,7 +19,7 @@ is_within most n no_more = by (nat_le n most) refl where
 pub no_fault : {T E : Type 0} (made : T) (fault : E) → Ok made ≡ Err fault → ⊥
 no_fault made fault e = cc
 
--- it answers so to the query as it does, behind one rewrite, to the name that the record makes
+-- a server that redirects the query answers it as it answers, behind one rewrite, the name that the DNAME record makes
 pub redirection_answers : (config : Config) (query server : Labels) (owner target : Bor Labels) → IsReply config query server (reply.Redirects owner target)
     → (to : Labels) → to ≡ swap query owner.now target.now → nat_le (wire_octets to) 255 ≡ true
     → (before after : StraightEnds) → IsAnsweredBehind config server to 1 before after → IsAnswered config query server before after

@@ -26,13 +26,13 @@ use Rattle.straight_walks.proofs.StraightSearch.{begins_at_top, one_walked, outs
 module _ (config : Config) (deps : Deps) (origin : Labels) where
   -- ---- one server
 
-  -- that has no zone for the origin: walks for each of the names pass it
+  -- walks for each name below the origin with no other between pass a server that has no zone for the origin
   pub outside_past : (server : Labels) (queue : List Queued) (fails : Bool) → IsReply config origin server reply.Outside → (query : Labels) → NoOriginBetween config origin query
       → PassesServer config deps query server queue (unanswered fails) queue (unanswered true)
   outside_past server queue fails so query nearest =
       outside_passes config deps query server queue (unanswered fails) (same_nearest config origin query nearest server ∙ so)
 
-  -- whose zone refers it: by the same zone cut it refers each of the names
+  -- a server whose zone refers the origin refers each name below it, with no other origin between, by the same zone cut
   pub refers_below : (server : Labels) (tree : Bor ZoneTree) (cut : ℕ) → IsReply config origin server (reply.Refers tree cut)
       → (query : Labels) → NoOriginBetween config origin query → IsReply config query server (reply.Refers tree cut)
   refers_below server tree cut so query nearest =
@@ -44,7 +44,7 @@ module _ (config : Config) (deps : Deps) (origin : Labels) where
         ap (deciding tree.now.zone) (sym begins.1) ∙ cut_stays tree.now.zone origin begins.0 (name_of tree.now cut) so.4,
       )
 
-  -- and walks pass it
+  -- walks for each name below the origin with no other between pass a server whose zone refers the origin
   pub referral_past : (server : Labels) (queue : List Queued) (fails_before : Bool) (after : List Queued) (fails : Bool) (tree : Bor ZoneTree) (cut : ℕ)
       → IsReply config origin server (reply.Refers tree cut)
       → AreReferrals config deps origin server tree.now.zone (name_of tree.now cut) (ns_names tree.now.zone (name_of tree.now cut)) queue fails_before after fails
@@ -64,7 +64,7 @@ module _ (config : Config) (deps : Deps) (origin : Labels) where
     pub either : (one : Queued) → Contains (take at search.queue.items) one → Contains (search.passed.items ++ search.answering.items) one
     pub only : (one : Queued) → Contains (search.passed.items ++ search.answering.items) one → Contains search.queue.items one
 
-  -- where the search begins none is
+  -- where the search for an origin begins no state is looked at
   pub none_looked_at : (search : RegionSearch) → IsRegionStart config search → AreLookedAt 0 search
   none_looked_at search is =
       record {
@@ -155,7 +155,7 @@ module _ (config : Config) (deps : Deps) (origin : Labels) where
       by (inl has) = so.only other has
       by (inr same) = subst (Contains before.queue.items) same queued
 
-    -- it is passed
+    -- one state more is looked at if it is passed
     pub passed_looked_at : IsPassedMore config deps origin item before after → AreLookedAt (at + 1) after
     passed_looked_at more =
         record {
@@ -174,7 +174,7 @@ module _ (config : Config) (deps : Deps) (origin : Labels) where
         both : after.passed.items ++ after.answering.items ≡ (before.passed.items ++ item ∷ []) ++ before.answering.items
         both = ap (λ (p : List Queued). p ++ after.answering.items) more.passed ∙ ap (λ (a : List Queued). (before.passed.items ++ item ∷ []) ++ a) more.answering
 
-    -- or its server answers
+    -- one state more is looked at if its server answers
     pub answering_looked_at : IsAnsweringMore item before after → AreLookedAt (at + 1) after
     answering_looked_at more =
         record {

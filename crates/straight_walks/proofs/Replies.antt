@@ -96,20 +96,21 @@ module _ (config : Config) (query server : Labels) (setting : Setting) (rtype : 
     decided_alias : next setting rtype state ≡ by_alias (type_eq rtype types.Cname)
     decided_alias = decided_by tree.now.zone (sym so.1) (ByRecords (name_of tree.now owner)) so.2
 
-    -- with type CNAME its own data are answered
+    -- with type CNAME a server that replies with an alias answers the alias's own data
     pub alias_answers : type_eq rtype types.Cname ≡ true → next setting rtype state ≡ End None (owner_leaf (zone_owner tree.now (Some owner)) rtype) ∷ []
     alias_answers is =
         decided_alias ∙ ap by_alias is ∙ answers (sorted_data tree.now.zone (name_of tree.now owner) rtype) setting state tree.now.zone.origin
 
-    -- where the alias stands
+    -- the place of the alias
     abbrev pub place : Place
     place = place_of tree.now.zone.origin (name_of tree.now owner)
 
-    -- the state with its target at the same server
+    -- the state with the alias's target at the same server
     abbrev pub aliased_to : State
     aliased_to = rewritten_to tree.now.zone.origin (name_of tree.now owner) false target.now
 
-    -- with each other type walks go on to it, if they may and the server has a zone for it
+    -- with each type but CNAME walks go on to the target of an alias, if a rewrite is left and the server has a zone
+    -- for the target
     pub alias_goes : type_eq rtype types.Cname ≡ false → state.used < setting.rewrites → is_some (nearest_of config server target.now) ≡ true
         → next setting rtype state ≡ Go (Rewrite place false target.now) aliased_to ∷ []
     alias_goes other fewer held =
@@ -119,15 +120,16 @@ module _ (config : Config) (query server : Labels) (setting : Setting) (rtype : 
 
   -- a name that a DNAME record redirects
   module _ (owner target : Bor Labels) (so : IsReply config query server (reply.Redirects owner target)) where
-    -- where the record stands
+    -- the place of the DNAME record
     abbrev pub dname_place : Place
     dname_place = place_of so.0.origin owner.now
 
-    -- the state with the name that it makes, at the same server
+    -- the state with the name that the DNAME record makes, at the same server
     abbrev pub redirected_to : Labels → State
     redirected_to to = rewritten_to so.0.origin owner.now true to
 
-    -- walks go on to it with each type, if the name isn't too long, and they may and the server has a zone for it
+    -- with each type walks go on to the name that a DNAME record makes, if it isn't too long, a rewrite is left and the
+    -- server has a zone for it
     pub redirection_goes : (to : Labels) → to ≡ swap query owner.now target.now → nat_le (wire_octets to) 255 ≡ true
         → state.used < setting.rewrites → is_some (nearest_of config server to) ≡ true
         → next setting rtype state ≡ Go (Rewrite dname_place true to) (redirected_to to) ∷ []
@@ -144,7 +146,7 @@ module _ (config : Config) (query server : Labels) (setting : Setting) (rtype : 
 -- ---- the query at the server
 
 module _ (config : Config) (query server : Labels) where
-  -- a server without a zone for the name
+  -- walks end at a server without a zone for the name
   pub outside_ends : IsReply config query server reply.Outside → (setting : Setting) (rtype : RrType) (above : ℕ) → setting.config ≡ config
       → next setting rtype (state_at config query server above) ≡ End None Outside ∷ []
   outside_ends none setting rtype above same = in_nearest config query server setting rtype (state_at config query server above) same refl refl None (sym none)
@@ -174,7 +176,7 @@ module _ (config : Config) (query server : Labels) where
           ∙ answers (sorted_data tree.now.zone (name_of tree.now owner) rtype) setting state tree.now.zone.origin,
     )
 
-    -- where one is among them the name is an alias
+    -- a server whose zone has an alias among the records that decide at the name replies with an alias
     pub alias_decides : (owner : ℕ) → IsNode tree.now owner → deciding tree.now.zone query ≡ ByRecords (name_of tree.now owner)
         → (target : Bor Labels) → first_name (targets_at tree.now.zone (name_of tree.now owner) types.Cname) ≡ Some target.now
         → IsReply config query server (reply.Alias tree owner target)
@@ -193,7 +195,7 @@ module _ (config : Config) (query server : Labels) where
     pub nothing_decides : deciding tree.now.zone query ≡ ByNothing → IsReply config query server (reply.Nothing tree)
     nothing_decides decides = λ setting rtype state same at named. decided_by config query server setting rtype state same at named tree.now.zone is ByNothing decides
 
--- the branches of a state at a server whose zone refers the name
+-- the branches of a state at a server whose zone refers the name are those to the name servers of the zone cut
 pub refers_to : (config : Config) (query server : Labels) (tree : Bor ZoneTree) (cut : ℕ) → IsReply config query server (reply.Refers tree cut)
     → (setting : Setting) (rtype : RrType) (above : ℕ) → setting.config ≡ config
     → next setting rtype (state_at config query server above)

@@ -35,11 +35,11 @@ owner_told owner rtype = by owner.owner where
   by None = refl
   by (Some name) = told_data (sorted_data owner.zone name rtype)
 
--- so does a server
+-- what a server answers by its owners is authoritative
 pub answers_told : (answering : AnswerOwners) (rtype : RrType) → is_authoritative (leaf_of answering rtype) ≡ true
 answers_told answering rtype = owner_told (owner_with answering rtype) rtype
 
--- so that is the outcome of a walk that ends there
+-- what a server answers by its owners is the outcome of a walk that ends there
 pub outcome_told : (answering : AnswerOwners) (rtype : RrType) → outcome_of (leaf_of answering rtype) ≡ Some (leaf_of answering rtype)
 outcome_told answering rtype = ap (λ (b : Bool). if b then Some (leaf_of answering rtype) else None) (answers_told answering rtype)
 
@@ -63,7 +63,7 @@ data_told [] (other ∷ others) = refl
 data_told (one ∷ found) [] = refl
 data_told (one ∷ found) (other ∷ others) = refl
 
--- where these data are found, or no owner, answers are compared by them
+-- what answers are compared by: the owner's data of the type, or that there is no owner
 abbrev pub FoundWith : AnswerOwners → RrType → Option (List Rdata) → Type 0
 FoundWith answering rtype found =
     found ≡ option_map (λ name. sorted_data (owner_with answering rtype).zone name rtype) (owner_with answering rtype).owner
@@ -74,13 +74,13 @@ compared_found one other rtype found others is also =
     ap (λ (leaf : Leaf). answer_eq leaf (option_map_or leaf_with others NxDomain)) (sym (told_by (owner_with one rtype) rtype found is))
     ∙ ap (answer_eq (leaf_of one rtype)) (sym (told_by (owner_with other rtype) rtype others also))
 
--- where both have data of the type, their answers are equal where the data are
+-- if both answering owners have data of the type, their answers are equal exactly if the data are
 pub compared_by_data : (one other : AnswerOwners) (rtype : RrType) (found others : List Rdata) → FoundWith one rtype (Some found) → FoundWith other rtype (Some others)
     → pointwise (data_impl.ghosts).eq found others ≡ answer_eq (leaf_of one rtype) (leaf_of other rtype)
 compared_by_data one other rtype found others is also =
     same_lists found others ∙ data_told found others ∙ compared_found one other rtype (Some found) (Some others) is also
 
--- where neither has the name, they answer alike
+-- two answers without an owner are equal
 pub both_nothing : (one other : AnswerOwners) (rtype : RrType) → FoundWith one rtype None → FoundWith other rtype None → true ≡ answer_eq (leaf_of one rtype) (leaf_of other rtype)
 both_nothing one other rtype is also = compared_found one other rtype None None is also
 
@@ -88,12 +88,12 @@ data_or_nothing : (found : List Rdata) → (answer_eq (leaf_with found) NxDomain
 data_or_nothing [] = (refl, refl)
 data_or_nothing (first ∷ rest) = (refl, refl)
 
--- where only the first one lacks the name, they don't
+-- answers differ if only the first one has no owner
 pub first_nothing : (one other : AnswerOwners) (rtype : RrType) (others : List Rdata) → FoundWith one rtype None → FoundWith other rtype (Some others)
     → false ≡ answer_eq (leaf_of one rtype) (leaf_of other rtype)
 first_nothing one other rtype others is also = sym (data_or_nothing others).1 ∙ compared_found one other rtype None (Some others) is also
 
--- nor where only the second one lacks it
+-- answers differ if only the second one has no owner
 pub second_nothing : (one other : AnswerOwners) (rtype : RrType) (found : List Rdata) → FoundWith one rtype (Some found) → FoundWith other rtype None
     → false ≡ answer_eq (leaf_of one rtype) (leaf_of other rtype)
 second_nothing one other rtype found is also = sym (data_or_nothing found).0 ∙ compared_found one other rtype (Some found) None is also
@@ -156,7 +156,7 @@ abbrev pub with_rewrites : StraightEnds → ℕ → Bool → StraightEnds
 with_rewrites ends rewrites none_below = record ends { rewrites = rewrites; below = false; unnamed_below = ends.unnamed_below && none_below }
 
 module _ (ends : StraightEnds) (answering : AnswerOwners) (rewrites more : ℕ) (none_below : Bool) (kept : ends.rewrites ≤ more) (reached : rewrites ≤ more) where
-  -- it answers as those before
+  -- an answer that is equal to that of the ends with each type is put to them
   pub put_same : (before : AnswerOwners) → ends.answer ≡ Some before → ((rtype : RrType) → leaf_of before rtype ≡ leaf_of answering rtype)
       → AnswerIsPut ends answering rewrites none_below (with_rewrites ends more none_below)
   put_same before is same =
@@ -178,7 +178,7 @@ module _ (ends : StraightEnds) (answering : AnswerOwners) (rewrites more : ℕ) 
       back rtype None told = told
       back rtype (Some leaf) told = told
 
-  -- or none answered before
+  -- an answer is put to ends that have none yet
   pub put_first : ends.answer ≡ None → AnswerIsPut ends answering rewrites none_below (record (with_rewrites ends more none_below) { answer = Some answering })
   put_first none =
       record {

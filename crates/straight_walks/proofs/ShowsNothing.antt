@@ -86,13 +86,13 @@ shows_nothing setting deps most query ends straight rtype fault shows =
     no_walks setting deps most query ends rtype (straight rtype) shows.walks fault shows.are_walks
     (taken (with_lists setting deps.least deps.greatest) shows.walks fault shows.show) (zones (with_lists setting deps.least deps.greatest) shows.walks fault shows.show)
 
--- no walk of it ends in a name that is too long
+-- no walk of a query whose walks go straight ends in a name that is too long
 pub is_bounded : (setting : Setting) (deps : Deps) (most : ℕ) (query : Labels) (ends : StraightEnds) → ((rtype : RrType) → GoesStraight setting deps most query ends rtype)
     → (rtype : RrType) → IsBoundedWith setting query rtype
 is_bounded setting deps most query ends straight rtype walk place is overlong =
     true≢false (sym (ends_so setting deps most query ends rtype (straight rtype) walk (leaves.Overlong place) is overlong).0)
 
--- and its outcomes are those of the ends
+-- a query whose walks go straight has the outcomes of the ends and no others
 pub outcomes_are : (setting : Setting) (deps : Deps) (most : ℕ) (query : Labels) (ends : StraightEnds) → ((rtype : RrType) → GoesStraight setting deps most query ends rtype)
     → (rtype : RrType) (outcome : Option Leaf) → HasOutcome setting query rtype outcome ↔ IsOutcomeOf ends rtype outcome
 outcomes_are setting deps most query ends straight rtype outcome = (

@@ -36,7 +36,7 @@ module _ (setting : Setting) (deps : Deps) (ends : StraightEnds) (rtype : RrType
   few_behind state (inl branches) = omega arith
   few_behind state (inr (behind, leaf, few, is, told, answers)) = few
 
-  -- so there are no more in all than so many times the states
+  -- some states with those behind them are at most so many times the states
   pub few_in_all : (times : ℕ) → ends.rewrites < times → (some : List State) (pass : AllByRecursion Pass some) → length (with_behind some pass) ≤ length some * times
   few_in_all times more [] pass = omega arith
   few_in_all times more (state ∷ rest) pass =
@@ -45,7 +45,7 @@ module _ (setting : Setting) (deps : Deps) (ends : StraightEnds) (rtype : RrType
       let product : suc (length rest) * times ≡ length rest * times + times = suc-mul (length rest) times in
       omega (arith, length-append (behind_of state pass.0) (with_behind rest pass.1))
 
-  -- each state is one of them
+  -- each of some states is among them with those behind them
   pub still_there : (some : List State) (pass : AllByRecursion Pass some) (state : State) → Contains some state → Contains (with_behind some pass) state
   still_there [] pass state has = absurd (none_in_nil state has)
   still_there (first ∷ rest) pass state has = by (first_or_later first rest state has) (still_there rest pass.1 state) where
@@ -68,6 +68,7 @@ module _ (setting : Setting) (deps : Deps) (ends : StraightEnds) (rtype : RrType
     )
     one_steps state (inr (behind, leaf, few, is, told, answers)) among = along_steps setting deps ends rtype all leaf is told state behind answers among
 
+    -- from each of some states, and from each state behind them, walks go straight among all states that have them
     pub all_step : (some : List State) (pass : AllByRecursion Pass some) → ((state : State) → Contains (with_behind some pass) state → Contains all state)
         → AllByRecursion (StepsStraight setting deps ends rtype all) (with_behind some pass)
     all_step [] pass among = tt

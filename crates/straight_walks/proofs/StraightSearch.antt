@@ -39,7 +39,7 @@ none_told rtype None is = cc
 none_told rtype (Some leaf) is = cc
 
 module _ (config : Config) (deps : Deps) (query : Labels) where
-  -- the states at these servers are among those at the others
+  -- the states at the servers of the one queue are among those at the servers of the other
   abbrev pub AreAmong : List Queued → List Queued → Type 0
   AreAmong before after = (state : State) → Contains (map (queued_state config query) before) state → Contains (map (queued_state config query) after) state
 
@@ -67,7 +67,7 @@ module _ (config : Config) (deps : Deps) (query : Labels) where
   -- ---- one server
 
   module _ (server : Labels) (queue : List Queued) (ends : StraightEnds) where
-    -- that has no zone for the name
+    -- walks pass a server that has no zone for the name
     pub outside_passes : IsReply config query server reply.Outside → PassesServer config deps query server queue ends queue (record ends { fails = true })
     outside_passes so =
         record {
@@ -95,7 +95,7 @@ module _ (config : Config) (deps : Deps) (query : Labels) where
             ends_by_branch setting rtype (state_at config query server above) None Outside None
             (subst (λ (all : List Branch). Contains all (End None Outside)) (sym (ends_so setting rtype above of.is_of)) (has_first (End None Outside) [])) refl)
 
-    -- that answers as those before, or is the first
+    -- walks pass a server that answers as those before, or is the first that answers
     pub answer_passes : (answering : AnswerOwners) (rewrites : ℕ) (none_below : Bool) (after : StraightEnds) → AnswersSo config query server answering rewrites
         → AnswerIsPut ends answering rewrites none_below after → PassesServer config deps query server queue ends queue after
     answer_passes answering rewrites none_below after so put =
@@ -117,7 +117,7 @@ module _ (config : Config) (deps : Deps) (query : Labels) where
             subst (EndsWith setting rtype (state_at config query server above)) (outcome_told answering rtype ∙ sym same)
             (ends_along setting rtype (leaf_of answering rtype) (state_at config query server above) behind along))
 
-    -- whose zone refers it
+    -- walks pass a server whose zone refers the name
     pub referral_passes : (tree : Bor ZoneTree) (cut : ℕ) (after : List Queued) (fails : Bool) → IsReply config query server (reply.Refers tree cut)
         → AreReferrals config deps query server tree.now.zone (name_of tree.now cut) (ns_names tree.now.zone (name_of tree.now cut)) queue ends.fails after fails
         → PassesServer config deps query server queue ends after (record ends { fails = fails })
@@ -182,7 +182,7 @@ module _ (config : Config) (deps : Deps) (query : Labels) where
         told = λ setting rtype outcome of is. absurd (none_told rtype outcome is);
       }
 
-  -- one more of the queued states is passed
+  -- the search has walked over one queued state more if walks pass its server
   pub one_walked : (queue after passed : List Queued) (ends_before ends : StraightEnds) (item : Queued) → Contains queue item
       → HasWalked config deps query queue passed ends_before → PassesServer config deps query item.server.now queue ends_before after ends
       → HasWalked config deps query after (passed ++ item ∷ []) ends
@@ -219,7 +219,7 @@ module _ (config : Config) (deps : Deps) (query : Labels) where
       told setting rtype outcome of (inr end) =
           comes_to_end setting query rtype (queued_state config query item) (so.comes setting rtype of.is_of item among) outcome (end setting item.cut of)
 
-  -- a search over the same states in another order
+  -- what a search has walked over it has walked over with the same states queued in another order
   pub walked_among : (queue other passed : List Queued) (ends : StraightEnds) → AreAmong queue other → ((one : Queued) → Contains other one → Contains queue one)
       → HasWalked config deps query queue passed ends → HasWalked config deps query other passed ends
   walked_among queue other passed ends more back so =
@@ -233,7 +233,7 @@ module _ (config : Config) (deps : Deps) (query : Labels) where
         told = so.told;
       }
 
-  -- walks go straight from one more of the queued states when they do from the next one
+  -- one queued state more is passed if walks pass its server
   pub one_passed : (queue after : List Queued) (at : ℕ) (ends_before ends : StraightEnds) (item : Queued) → at < length queue → item ≡ get_or queue at item
       → HasPassed config deps query queue at ends_before → PassesServer config deps query item.server.now queue ends_before after ends → HasPassed config deps query after (at + 1) ends
   one_passed queue after at ends_before ends item within is so one =
@@ -248,7 +248,7 @@ module _ (config : Config) (deps : Deps) (query : Labels) where
       passed_over =
           ap (take (at + 1)) one.extends.1 ∙ take-append-le (at + 1) queue one.extends.0 (omega (arith, within)) ∙ take_more queue at item within ∙ (λ j. take at queue ++ sym is j ∷ [])
 
-  -- and when its server refers the name
+  -- the queued states passed so far stay passed if the next one's server refers the name
   pub referral_passed : (queue after : List Queued) (at : ℕ) (ends : StraightEnds) (fails : Bool) (tree : Bor ZoneTree) (cut : ℕ) (item : Queued)
       → at < length queue → item ≡ get_or queue at item
       → IfSome (slice_get queue at) (λ one. IsReply config query one.server.now (reply.Refers tree cut)) → HasPassed config deps query queue at ends
@@ -263,7 +263,7 @@ module _ (config : Config) (deps : Deps) (query : Labels) where
           subst (λ (found : Option Queued). IfSome found (λ one. IsReply config query one.server.now (reply.Refers tree cut)))
           (slice_get_read queue (length queue) at item refl within is) refers
 
-  -- where all are
+  -- if all queued states are passed, the query goes straight to the ends
   pub all_passed : (queue : List Queued) (at most : ℕ) (ends : StraightEnds) → HasPassed config deps query queue at ends → length queue ≤ at
       → length queue * (ends.rewrites + 1) ≤ most → GoesStraightIn config deps ends.rewrites most query ends
   all_passed queue at most ends so all few setting of enough rtype =
@@ -293,7 +293,7 @@ module _ (config : Config) (deps : Deps) (query : Labels) where
           subst (λ (passed : List Queued). AllByRecursion (PassesState setting deps ends rtype (map (queued_state config query) queue)) (map (queued_state config query) passed))
           (take_all at queue all) (so.walked.steps setting rtype (record { is_of = of; rewrites = enough }))
 
-  -- and where the ends are given if they are within these limits
+  -- ends that are given only within the limits are ends to which the query goes straight
   pub given_within : (rewrites most states : ℕ) (ends : StraightEnds) (given : Option StraightEnds) → IfSome given (λ found. found ≡ ends)
       → IfSome given (λ found. states * (ends.rewrites + 1) ≤ most) → IfSome given (λ found. ends.rewrites ≤ rewrites)
       → (states * (ends.rewrites + 1) ≤ most → HoldsOfEachTold config query (GoesStraightIn config deps ends.rewrites most) ends) → IfSome given (HoldsOfEachTold config query (GoesStraightIn config deps rewrites most))

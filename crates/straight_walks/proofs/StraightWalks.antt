@@ -45,7 +45,7 @@ GoesSo config deps ends rtype states state (Go hop to) = IsSoundHop config deps 
 GoesSo config deps ends rtype states state (End hop leaf) =
     AllByRecursion (IsSoundHop config deps) (option_to_list hop) × EndsSo ends rtype leaf × (leaf ≡ NxDomain → state.last ≡ None)
 
--- so the walk goes: it stands in some of the states, and a name to which it is rewritten exists
+-- the walk goes by sound hops over some of the states, ends as the ends say, and a name to which it is rewritten exists
 pub record GoesStraightBy (config : Config) (deps : Deps) (ends : StraightEnds) (rtype : RrType) (states : List State) (walk : Walk) : Type 0 where
   pub among : AllByRecursion (Contains states) walk.states
   pub hops : AllByRecursion (IsSoundHop config deps) walk.hops
@@ -96,7 +96,7 @@ ends_answered ends rtype NoData is told = (is, told)
 ends_answered ends rtype NxDomain is told = (is, told)
 ends_answered ends rtype leaf is told = cc
 
--- so each end is one of the outcomes
+-- the outcome of a leaf in which walks to the ends end is one of the ends' outcomes
 pub end_told : (ends : StraightEnds) (rtype : RrType) (leaf : Leaf) → EndsSo ends rtype leaf → IsOutcomeOf ends rtype (outcome_of leaf)
 end_told ends rtype Outside so = so
 end_told ends rtype (Unhosted ns) so = so
@@ -162,7 +162,7 @@ module _ (setting : Setting) (deps : Deps) (most : ℕ) (query : Labels) (ends :
             exists = end_exists state (option_to_list end.hop) end.leaf branch.2;
           })
 
-  -- and so does each walk of the query
+  -- each walk of the query goes straight by the states
   pub goes_by : (walk : Walk) → IsWalk setting query rtype walk → So walk
   goes_by walk ([], e) = cc
   goes_by walk (number ∷ numbers, e) = by (slice_get (start setting.config query) number) refl e where

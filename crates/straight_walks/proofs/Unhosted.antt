@@ -66,7 +66,7 @@ module _ (config : Config) (deps : Deps) (query : Labels) (cut : Cut) (zone : Zo
           (delegated state cut (nearest_of setting.config cut.ns state.name))))
           (ap (λ (s : Option Server). is_some s) (ap (λ (c : Config). server_named c cut.ns) of.config_is ∙ unhosted))
 
--- none is wanted by one that isn't at or below the cut, or has an address
+-- no glue is wanted for a name server that isn't at or below the cut
 pub far : (below address : Bool) → below ≡ false → (below && not address) ≡ false
 far below address apart = ap (λ (b : Bool). b && not address) apart
 

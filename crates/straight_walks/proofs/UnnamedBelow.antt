@@ -71,6 +71,7 @@ module _ (config : Config) (query tail : Labels) (is : IsUnnamedTail config quer
         absurd (far_names config query is.first is.unnamed zone.origin (origin_of_config config zone (zone_of_config config holder zone one.0 other.0))
         (subst (Begins front) (sym ((name_eq_decides zone.origin longer).0 other.1)) begins))
 
+  -- no server has a zone whose origin stands between the query and the query with an unnamed tail
   pub none_between : NoOriginBetween config query (query ++ tail)
   none_between =
       record {
@@ -112,7 +113,8 @@ module _ (zone : Zone) (name : Labels) where
         ap (synthesized zone) (longest_itself (exists_in zone) name exists)
         ∙ ap (λ (b : Bool). cond b (ByRecords (source_of_synthesis name)) ByNothing) no_asterisk
 
-    -- then, where records decide at it, nothing does with an open tail
+    -- if records decide at a name without a DNAME record and with nothing at the asterisk label below, nothing decides
+    -- at it with an open tail
     pub nothing_opens : (owner : Labels) → deciding zone name ≡ ByRecords owner → open_deciding zone name ≡ ByNothing
     nothing_opens owner decides = by (zone_cut zone name) (dname_owner zone name) refl refl decides where
       shorter : (cut by_owner : Labels) (b : Bool) → cond b (by_dname zone by_owner) (ByCut cut) ≡ ByRecords owner → ⊥
@@ -129,13 +131,14 @@ module _ (zone : Zone) (name : Labels) where
           ∙ ap (λ (by_owner : Option Labels). open_decided zone name (shorter_decides zone None by_owner)) (none_redirects owner_is no_dname)
           ∙ no_source
 
--- the asterisk label is one
+-- the asterisk label is a label
 pub asterisk_is_label : IsLabel (42 ∷ [])
 asterisk_is_label = record { not_empty = omega arith; short = omega arith; octets = refl }
 
 -- ---- what servers answer there
 
--- where nothing decides with an open tail in the zone in which the server looks the query up, it answers so
+-- if nothing decides with an open tail in the zone in which a server looks the query up, the server answers the query
+-- with an unnamed tail that there is no such name
 pub nothing_answered : (config : Config) (query server : Labels) (tree : Bor ZoneTree) → nearest_of config server query ≡ Some tree.now.zone
     → open_deciding tree.now.zone query ≡ ByNothing → AnswersNothingBelow config query server
 nothing_answered config query server tree nearest opens tail is zone =
@@ -153,7 +156,7 @@ nothing_leaf answering rtype = by (type_eq rtype types.Cname) where
   by true = refl
   by false = refl
 
--- so walks of it end at once at a server that answers so
+-- walks of the query with an unnamed tail end at once at a server that answers that there is no such name
 pub nothing_so : (config : Config) (query server tail : Labels) (answering : AnswerOwners) → IsUnnamedTail config query tail → AnswersNothingBelow config query server
     → AnswersSo config (query ++ tail) server (nothing_there answering) 0
 nothing_so config query server tail answering is so setting rtype above same enough = (
@@ -194,7 +197,7 @@ module _ (before after : StraightEnds) (answering : AnswerOwners) (rewrites : �
     by (inr e) = cc
   only (Some leaf) is = inr (ap (λ (leaf : Leaf). Some leaf) (only_nothing after.answer leaf is ∙ sym (nothing_leaf answering rtype)))
 
--- so what is put for the query is put for it with an unnamed tail
+-- an answer that is put to the query's ends is put, as no such name, to those of the query with an unnamed tail
 pub put_below : (before after : StraightEnds) (answering : AnswerOwners) (rewrites : ℕ) (none_below : Bool) → AnswerIsPut before answering rewrites none_below after
     → AnswerIsPut (nothing_below before) (nothing_there answering) 0 none_below (nothing_below after)
 put_below before after answering rewrites none_below put =

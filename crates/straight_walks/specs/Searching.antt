@@ -173,7 +173,7 @@ EndsOutside config tree cut ns =
     (deps : Deps) (query server : Labels) → held_zone config server tree.zone.origin ≡ Some tree.zone
     → IsReferral config deps query (cut_to server tree.zone (name_of tree cut) ns) referral.Ends
 
--- so they do at all its name servers, of which there are some
+-- the zone cut has a name server, and walks end at each of its name servers by a referral that shows no fault
 abbrev pub AllEndOutside : Config → ZoneTree → ℕ → Type 0
 AllEndOutside config tree cut =
     AllByRecursion (EndsOutside config tree cut) (ns_names tree.zone (name_of tree cut)) × (ns_names tree.zone (name_of tree cut) ≢ [])

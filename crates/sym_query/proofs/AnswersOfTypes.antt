@@ -20,7 +20,7 @@ use Rattle.sym_query.specs.declared.typed_found.TypedFound.{TypedFound}
 use Rattle.dns_data.proofs.Membership.{pairs_more}
 
 module _ (zone : Zone) (name : SymName) (decides : Deciding) where
-  -- no answers, where no type is asked for
+  -- no answers are those to no type
   pub none_are : (among : RrType → Bool) → ((rtype : RrType) → among rtype ≡ false) → AreAnswers zone name decides among []
   none_are among none = record {
     together = λ rtype. sym (none rtype);
@@ -30,7 +30,7 @@ module _ (zone : Zone) (name : SymName) (decides : Deciding) where
     open_tail = tt;
   }
 
-  -- one answer to all types
+  -- one answer to all types that are asked for is the answers to them
   pub one_are : (asked : List Bool) (found : Found) (answers : List TypedFound) → IsOneAnswer name asked found answers → HasSome asked
       → ((rtype : RrType) → has_bit asked rtype ≡ true → found ≡ answered zone (whole name) rtype decides)
       → AreAnswers zone name decides (has_bit asked) answers
@@ -44,7 +44,7 @@ module _ (zone : Zone) (name : SymName) (decides : Deciding) where
   }
 
   module _ (among : RrType → Bool) (answers : List TypedFound) (are : AreAnswers zone name decides among answers) where
-    -- the same types, told otherwise
+    -- answers of what decides to some types are those to the same types told otherwise
     pub same_are : (more : RrType → Bool) → ((rtype : RrType) → more rtype ≡ among rtype) → AreAnswers zone name decides more answers
     same_are more same = record {
       together = λ rtype. are.together rtype ∙ sym (same rtype);
@@ -54,7 +54,7 @@ module _ (zone : Zone) (name : SymName) (decides : Deciding) where
       open_tail = are.open_tail;
     }
 
-    -- one answer more, to types that had none
+    -- answers to some types with one more, to types that had none, are those to all of these types
     pub more_are : (answer : TypedFound) → ((rtype : RrType) → has_bit answer.types rtype ≡ true → among rtype ≡ false) → AnswersSome answer
         → AnswersAsDecided zone (whole name) decides answer → IsOpenExactly name answer → (more : RrType → Bool)
         → ((rtype : RrType) → more rtype ≡ (among rtype || has_bit answer.types rtype)) → AreAnswers zone name decides more (answers ++ answer ∷ [])
@@ -83,7 +83,7 @@ one_more true false false after within is = ap not is
 one_more false left true after within is = absurd (true≢false (sym (within refl)))
 one_more false left false after within is = refl
 
--- a type that is among one more of the twelve was so before, or is that one
+-- a type that is among some types and one more is among them, or is that one
 pub passed_or_this : (passed rtypes : List RrType) (this rtype : RrType) → rtypes ≡ passed ++ this ∷ []
     → list_any (λ other. type_eq other rtype) rtypes ≡ true → (list_any (λ other. type_eq other rtype) passed ≡ true) ⊎ (type_eq this rtype ≡ true)
 passed_or_this passed rtypes this rtype is has =

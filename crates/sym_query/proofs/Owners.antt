@@ -68,7 +68,7 @@ owner_decides zone name owner target None None e = by (exists_in zone name) (clo
   by false None is = cc
   by false (Some encloser) is = source (exists_in zone (source_of_synthesis encloser)) encloser is
 
--- so its node stands for a name at or above the known name
+-- if a redirection decides, its node stands for a name at or above the known name
 pub redirects_known : (tree : ZoneTree) (decider : Decider) (name : SymName) → deciding tree.zone (whole name) ≡ deciding_by tree decider
     → RedirectsKnown tree decider name
 redirects_known tree (Cut node) name e = tt

@@ -69,7 +69,7 @@ module _ (known owner target tail : Labels) (label : List ℕ) (above : is_prefi
       → redirected (known ++ tail) owner (Some target) ≡ with_tail tail (redirected (known ++ label ∷ []) owner (Some target))
   redirected_alike = if_short (nat_le (wire_octets one) 255) (nat_le (wire_octets other) 255)
 
--- the same decides at the known name with either tail, so the answers differ in the tail alone
+-- the same decides at the known name with either of two open tails, so the answers differ in the tail alone
 pub answered_alike : (tree : ZoneTree) (decider : Decider) (known tail : Labels) (label : List ℕ) (rtype : RrType)
     → RedirectsKnown tree decider (record { known = known; tail = Some label })
     → is_too_long (answered tree.zone (known ++ label ∷ []) rtype (deciding_by tree decider)) ≡ false
@@ -87,7 +87,7 @@ answered_alike tree (Redirection node) known tail label rtype above e f =
       by None e f = refl
       by (Some target) e f = redirected_alike known (name_of tree node) target tail label above e f
 
--- so an answer of what decides stands for all open tails
+-- an answer of what decides at the known name with an open tail stands for all open tails
 pub stands_for_tails : (tree : ZoneTree) (decider : Decider) (known : Labels) (tail : Option (List ℕ)) (answer : TypedFound)
     → RedirectsKnown tree decider (record { known = known; tail = tail })
     → (is_some tail ≡ true → (other : Labels) → IsOpenTail tree.zone known other → deciding tree.zone (known ++ other) ≡ deciding_by tree decider)

@@ -33,7 +33,7 @@ use Rattle.verdict_book.proofs.Once.{claims_counted, filings_counted}
 use Rattle.verdict_book.proofs.Places.{get_cases, get_map, map_set_same, some_same, count_set, count_map_none, all_counted, counted_all, some_in}
 use Rattle.verdict_book.proofs.Items.{Known, step, walk, begins, are_reached}
 
--- these pages
+-- the pages with this limit and this history
 abbrev pub pages_of : ℕ → List HistoryEntry → Pages
 pages_of limit h = record { limit = limit; history = h }
 
@@ -72,7 +72,7 @@ claimed_state Issued is = absurd cc
 claimed_state Claimed is = refl
 claimed_state (Filed v) is = absurd cc
 
--- of a ticket that is kept as claimed, that is kept
+-- what is kept of a ticket is that it is claimed, if the test says so
 pub claimed_means : (k : Kept) → is_claimed k ≡ true → k ≡ KeptClaimed
 claimed_means Unknown is = absurd cc
 claimed_means KeptIssued is = absurd cc
@@ -366,7 +366,7 @@ module _ {I V : Type 0} (first : I) (children : I → List I) (verdict_of : I �
         let few = count_by-le-length (λ (r : Row I V). is_filed r.state) rows in
         all_counted (λ (r : Row I V). is_filed r.state) rows (omega (arith, few, none, rows_are, kept.filed_rows)) t r at
 
-    -- and has the verdict of its item
+    -- if nothing is unfiled, each row has the verdict of its item
     pub rows_judged : unfiled_in h ≡ 0 → All (JudgesRow verdict_of) rows
     rows_judged none k d low =
         let at = slice_get-get_or rows k d low in
@@ -387,7 +387,7 @@ module _ {I V : Type 0} (first : I) (children : I → List I) (verdict_of : I �
         let here = there_is t (omega (arith, low, rows_are)) in
         sym (filed_is_so verdict_of here.0.item here.0.state _ _ (kept.states t here.0 here.1)) ∙ all_rows_filed none t here.0 here.1)
 
-    -- so it is of pages that are these
+    -- if nothing is unfiled in pages of the book, their items are the reached ones, each once
     pub reached_in : (p : Pages) → pages_of limit h ≡ p → unfiled_in p.history ≡ 0 → AreReachedItems first children (items_of first children p.history)
     reached_in p are none =
         subst (λ (q : Pages). AreReachedItems first children (items_of first children q.history)) are (items_reached (ap (λ (q : Pages). unfiled_in q.history) are ∙ none))
@@ -457,7 +457,7 @@ module _ {I V : Type 0} (first : I) (children : I → List I) (verdict_of : I �
         (λ past. absurd (omega (arith, low, past.0, rows_are)))
         at.1
 
-    -- so it is of pages that are these
+    -- if nothing is unfiled in pages of the book, each issued ticket was claimed once and filed once
     pub once_in : (p : Pages) → pages_of limit h ≡ p → unfiled_in p.history ≡ 0 → EachOnce p.history
     once_in p are none =
         subst (λ (q : Pages). EachOnce q.history) are (each_once (ap (λ (q : Pages). unfiled_in q.history) are ∙ none))

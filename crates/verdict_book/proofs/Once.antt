@@ -30,7 +30,7 @@ counted_more n true false so new = omega (arith, so)
 counted_more n false true so new = omega (arith, so)
 counted_more n false false so new = omega (arith, so)
 
--- where it claims a ticket, it does so once
+-- a legal history that claims a ticket claims it once
 pub claims_counted : (before h : List HistoryEntry) → all_may_follow before h ≡ true → ((t : ℕ) → count_by (claims t) before ≡ cond (is_claimed_in before t) 1 0) → (t : ℕ) → count_by (claims t) (before ++ h) ≡ cond (is_claimed_in (before ++ h) t) 1 0
 claims_counted before [] legal so t = subst (λ l. count_by (claims t) l ≡ cond (is_claimed_in l t) 1 0) (sym (append-nil before)) (so t)
 claims_counted before (e ∷ h) legal so t =
@@ -39,7 +39,7 @@ claims_counted before (e ∷ h) legal so t =
     count_by_push (claims u) before e ∙ counted_more _ _ _ (so u) (unclaimed_before before e u p.0) ∙ ap (λ b. cond b 1 0) (sym (claimed_push before e u)) in
     subst (λ l. count_by (claims t) l ≡ cond (is_claimed_in l t) 1 0) (append_assoc before (e ∷ []) h) (claims_counted (before ++ e ∷ []) h p.1 next t)
 
--- where it files a ticket, it does so once
+-- a legal history that files a ticket files it once
 pub filings_counted : (before h : List HistoryEntry) → all_may_follow before h ≡ true → ((t : ℕ) → count_by (files t) before ≡ cond (is_filed_in before t) 1 0) → (t : ℕ) → count_by (files t) (before ++ h) ≡ cond (is_filed_in (before ++ h) t) 1 0
 filings_counted before [] legal so t = subst (λ l. count_by (files t) l ≡ cond (is_filed_in l t) 1 0) (sym (append-nil before)) (so t)
 filings_counted before (e ∷ h) legal so t =

@@ -12,18 +12,18 @@ use Rattle.pool_core.proofs.Lists.{slice_get-set_same, slice_get-set_other, coun
 use Rattle.verdict_book.specs.Items.{NoneTwice}
 
 module _ {X : Type 0} where
-  -- an item of the front is one of the whole
+  -- an item of the first of two lists in a row is one of the row, at its place
   pub get_left : (xs ys : List X) (k : ℕ) (x : X) → slice_get xs k ≡ Some x → slice_get (xs ++ ys) k ≡ Some x
   get_left [] ys k x h = absurd cc
   get_left (y ∷ xs) ys zero x h = h
   get_left (y ∷ xs) ys (suc k) x h = get_left xs ys k x h
 
-  -- an item of the back is one of the whole
+  -- an item of the second of two lists in a row is one of the row, behind the first list
   pub get_right : (xs ys : List X) (k : ℕ) (x : X) → slice_get ys k ≡ Some x → slice_get (xs ++ ys) (length xs + k) ≡ Some x
   get_right [] ys k x h = ap (λ n. slice_get ys n) (omega arith) ∙ h
   get_right (y ∷ xs) ys k x h = let e : suc (length xs) + k ≡ suc (length xs + k) = omega arith in ap (λ n. slice_get (y ∷ (xs ++ ys)) n) e ∙ get_right xs ys k x h
 
-  -- an item of the whole is one of the front or of the back
+  -- an item of two lists in a row is one of the first or of the second
   pub get_cases : (xs ys : List X) (k : ℕ) (x : X) → slice_get (xs ++ ys) k ≡ Some x → (slice_get xs k ≡ Some x) ⊎ ((p : ℕ) × (k ≡ length xs + p) × (slice_get ys p ≡ Some x))
   get_cases [] ys k x h = inr (k, omega arith, h)
   get_cases (y ∷ xs) ys zero x h = inl h
@@ -33,11 +33,11 @@ module _ {X : Type 0} where
   pub some_same : (x y : X) → Some x ≡ Some y → x ≡ y
   some_same x y e = cc
 
-  -- one item stands at a place
+  -- two items at the same place of a list are equal
   pub one_value : (xs : List X) (k : ℕ) (x y : X) → slice_get xs k ≡ Some x → slice_get xs k ≡ Some y → x ≡ y
   one_value xs k x y a b = some_same x y (sym a ∙ b)
 
-  -- what holds of whatever value is there holds of the value, if there is one
+  -- what holds of each value that an option may have holds of its value, if it has one
   pub if_some : (o : Option X) (P : X → Type 0) → ((x : X) → o ≡ Some x → P x) → IfSome o P
   if_some None P each = tt
   if_some (Some x) P each = each x refl
@@ -52,7 +52,7 @@ module _ {X : Type 0} where
   ok_means (Ok x) P e h = h
   ok_means (Err x) P e h = absurd cc
 
-  -- an item that is counted takes the place of one
+  -- if an item takes the place of another, the count changes by the two
   pub count_set : (p : X → Bool) (xs : List X) (k : ℕ) (x y : X) → slice_get xs k ≡ Some x → count_by p (set xs k y) + cond (p x) 1 0 ≡ count_by p xs + cond (p y) 1 0
   count_set p xs k x y h = ap (λ v. count_by p (set xs k y) + cond (p v) 1 0) (sym (get_or_from_slice_get xs k x x h)) ∙ sum_by-set (λ v. cond (p v) 1 0) xs k y x (slice_get_within xs k x h)
 
@@ -73,7 +73,7 @@ module _ {X : Type 0} where
       later zero got is rest = ap p (sym (some_same y x got)) ∙ is
       later (suc n) got is rest = rest n x got
 
-  -- where each item is counted, they are as many as the places
+  -- if each item is counted, as many are counted as there are
   pub counted_all : (p : X → Bool) (xs : List X) → ((k : ℕ) (x : X) → slice_get xs k ≡ Some x → p x ≡ true) → count_by p xs ≡ length xs
   counted_all p [] all = refl
   counted_all p (x ∷ xs) all =
@@ -94,7 +94,7 @@ module _ {X Y : Type 0} (f : X → Y) where
   map_set_same (z ∷ xs) zero x y h e = let same : z ≡ x = cc in ap (λ v. v ∷ map f xs) (e ∙ ap f (sym same))
   map_set_same (z ∷ xs) (suc k) x y h e = ap (λ l. f z ∷ l) (map_set_same xs k x y h e)
 
-  -- no value of the list is counted where no value of the function is
+  -- no value of a mapped list is counted, if none of the function's values is
   pub count_map_none : (p : Y → Bool) (xs : List X) → ((x : X) → p (f x) ≡ false) → count_by p (map f xs) ≡ 0
   count_map_none p [] none = refl
   count_map_none p (x ∷ xs) none = count_by-cons p (f x) (map f xs) ∙ rw (none x, count_map_none p xs none) refl
@@ -103,7 +103,7 @@ module _ {X Y : Type 0} (f : X → Y) where
 abbrev pub moved : ℕ → ℕ → ℕ → ℕ
 moved i j k = cond (k == j) i (cond (k == i) j k)
 
--- a second exchange of the two puts it back
+-- exchanging two places twice puts each item back
 pub moved_back : (i j k : ℕ) → moved i j (moved i j k) ≡ k
 moved_back i j k =
     ⊎_elim
@@ -147,7 +147,7 @@ module _ {X : Type 0} where
       let same = old (moved i j a) (moved i j b) x (sym (get_swap l i j a hi hj) ∙ ha) (sym (get_swap l i j b hi hj) ∙ hb) in
       sym (moved_back i j a) ∙ ap (moved i j) same ∙ moved_back i j b) ys perm
 
-  -- and no item is lost
+  -- a list in another order has the same items
   pub items_permuted : (xs ys : List X) → IsPermutation xs ys → HasItems xs ys
   items_permuted xs ys perm =
       IsPermutation-keeps xs (HasItems xs) (λ x h. h) (λ l i j hi hj old x h.

@@ -32,7 +32,7 @@ rising_has count place low =
     let is : get_or (range_with_len 0 count) place 0 ≡ place = let e = get_or-range_with_len 0 count place 0 low in omega (arith, e) in
     slice_get-get_or (range_with_len 0 count) place 0 (omega (arith, low, length-range_with_len 0 count)) ∙ ap Some is
 
--- one more of the rising places stands behind the others
+-- the rising places with one more are the places before, and the new one behind them
 pub rising_more : (count : ℕ) → range_with_len 0 (count + 1) ≡ range_with_len 0 count ++ count ∷ []
 rising_more count =
     sym (map-id (range_with_len 0 (count + 1)))
@@ -197,7 +197,7 @@ pub record IsPutting {T : Type 0} (items : List T) (ranks : List ℕ) (items' : 
   pub before : (k : ℕ) → k < place → slice_get ranks' k ≡ Some k
 
 module _ {T : Type 0} (items : List T) (ranks : List ℕ) where
-  -- nothing is exchanged at first
+  -- before any exchange each element has its rank, and none is put
   pub putting_begins : length ranks ≡ length items → All (λ rank. rank < length items) ranks → NoneTwice ranks → IsPutting items ranks items ranks 0
   putting_begins many below once = record {
     many = many;
@@ -254,7 +254,7 @@ module _ {T : Type 0} (items : List T) (ranks : List ℕ) where
             before = λ k less. ap (λ l. slice_get l k) ranks_are ∙ before_stay ranks' place rank here (λ e. apart (sym e)) high so.once so.before k less;
           }
 
-      -- and leaves fewer ranks misplaced
+      -- an exchange leaves fewer ranks misplaced
       pub putting_fewer : (get_or ranks' place 0 ≡ place → ⊥) → (new_ranks : List ℕ) → new_ranks ≡ swap ranks' place (get_or ranks' place 0) → misplaced 0 new_ranks < misplaced 0 ranks'
       putting_fewer apart new_ranks ranks_are =
           let rank : ℕ = get_or ranks' place 0 in

@@ -22,7 +22,7 @@ pub record Walked (limit : ℕ) (h : List HistoryEntry) (t : ℕ) : Type 0 where
 pub walked_low : (limit : ℕ) (h : List HistoryEntry) (t : ℕ) → Walked limit h t → (unfiled_in h ≡ 0 → ⊥) → t < issued_in h
 walked_low limit h t w some = omega (arith, some, w.filed, w.issued)
 
--- once it was claimed and filed, the one after it is next
+-- once the next ticket was claimed and filed, the one after it is next
 pub walked_step : (limit : ℕ) (h h' : List HistoryEntry) (t n : ℕ) → Walked limit h t → (unfiled_in h ≡ 0 → ⊥) → h' ≡ h ++ Claim t ∷ File t n ∷ [] → issued_in h' ≤ limit → Walked limit h' (t + 1)
 walked_step limit h h' t n w some is few =
     let a = h ++ Claim t ∷ [] in

@@ -91,7 +91,7 @@ module _ {I : Type 0} (xs : List I) where
     places_distinct ys (λ k z h. at (suc k) z h) (λ a b z ha hb. let e : suc a ≡ suc b = once (suc a) (suc b) z ha hb in omega (arith, e)),
   )
 
-  -- no more items are reached than a list has that is all of them
+  -- if a list has all reached items, no more items are reached than it has
   pub not_more : (first : I) (children : I → List I) (most : ℕ) → AreReachedItems first children xs → length xs ≤ most → ReachesMore first children most → ⊥
   not_more first children most are few more =
       let at : (k : ℕ) (y : I) → slice_get more.items k ≡ Some y → Place y = λ k y h. (are.each y).0 (more.reached k y h) in

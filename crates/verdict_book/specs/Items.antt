@@ -14,7 +14,7 @@ IsItemPath children from [] to = from ≡ to
 IsItemPath children from (next ∷ path) to =
     ((place : ℕ) × IsChildAt children from place next) × IsItemPath children next path to
 
--- there is a chain from the first item
+-- the item is at the end of a path from the first item
 abbrev pub Reached : {I : Type 0} → I → (I → List I) → I → Type 0
 Reached {I} first children item = (path : List I) × IsItemPath children first path item
 

@@ -257,7 +257,7 @@ carried_under config rewrites ground covers (Exact alone) query representative i
 carried_under config rewrites ground covers (Below above) query representative is of_class stands rtype fault shows =
     carried_below config rewrites ground (named_everywhere config ground covers) above query representative is of_class stands rtype fault (λ place e. cc) shows
 
--- so it does under the configuration's own ground
+-- each fault that a query shows, the representative of its class under the configuration's own ground shows
 pub carried : (config : Config) (rewrites : ℕ) (class : Class) (query representative : Labels) → IsName query
     → IsClassOf (ground_of config) query class → IsRepresentative (ground_of config) class representative
     → (rtype : RrType) (fault : Fault) → ShowsIn config rewrites query rtype fault → ShowsIn config rewrites representative rtype fault

@@ -63,7 +63,7 @@ module _ (setting : Setting) (least least' greatest greatest' : Labels → Type 
   walks_show (walk ∷ beside ∷ []) fault show = two_show walk beside fault show
   walks_show (walk ∷ beside ∷ third ∷ walks) fault show = show
 
-  -- so a query shows by the one sets what it shows by the others
+  -- with least and greatest sets of the same names a query shows the same faults
   pub shows_with : (query : Labels) (rtype : RrType) (fault : Fault) → Shows one query rtype fault → Shows other query rtype fault
   shows_with query rtype fault shows =
       record {

@@ -9,7 +9,7 @@ use Rattle.net_model.specs.Reading.{Ground, IsNamed, Covers, origins_and_owners,
 use Rattle.net_model.proofs.JoinedNames.{front_is_base, root_is_base, above_is_base, start_is_base, owner_is_base, alone_is_own}
 
 module _ (configs : List Config) (names : List Labels) where
-  -- So the joined ground covers each of its configurations: it has the root, the origins and owners of the configuration
+  -- the joined ground covers each of its configurations: it has the root, the origins and owners of the configuration
   -- (JoinedNames.start_is_base), the prefixes of each of its names (above_is_base), the owners of its redirections
   -- (owner_is_base), and all redirections of the configuration.
   pub joined_covers : (config : Config) → Contains configs config → Covers (joined_ground configs names) config

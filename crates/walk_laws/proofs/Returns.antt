@@ -377,7 +377,8 @@ module _ (setting : Setting) (rtype : RrType) where
 
 -- ---- so the query has a walk that ends at the limit
 
--- what the law says of a walk that comes back
+-- at a rewrite that the walk makes between two states with one server and one name, some walk of the query ends at the
+-- limit
 abbrev pub LimitBetween : Setting → Labels → RrType → (walk : Walk) → ComesBack walk → Type 0
 LimitBetween setting query rtype walk back =
     (place : Place) × RewritesAt (hops_round walk back) place × (limit : Walk) × IsWalk setting query rtype limit × ShowsLimit limit place
@@ -433,12 +434,13 @@ module _ (setting : Setting) (query : Labels) (rtype : RrType) where
           (some_rewrite setting rtype (n ∷ numbers) hop round back.first back.again goes like) setting.rewrites back.first
           (record { server = refl; name = refl }) (omega arith))
 
--- and so it shows the limit, with the set in force. The way between the two states rewrites somewhere (some_rewrite): by
--- referrals alone the name stays and the origin grows (EndsSomewhere.goes_down). A step asks the server and the name alone,
--- so from a state that stands alike the same numbers lead to one that stands alike, unless no rewrite is left at one of the
--- hops (same_step, around). Each round uses up a rewrite, so after as many rounds as there are rewrites none is left at a
--- hop of the round (round_and_round); the way there, gone branch by branch (Leads.leads_walk), is a walk that ends at the
--- limit (limit_walk).
+-- a query with a walk that comes back to a server and a name shows the rewrite limit, with the set in force, at a
+-- rewrite on the round. The way between the two states rewrites somewhere (some_rewrite): by referrals alone the name
+-- stays and the origin grows (EndsSomewhere.goes_down). A step asks the server and the name alone, so from a state that
+-- stands alike the same numbers lead to one that stands alike, unless no rewrite is left at one of the hops (same_step,
+-- around). Each round uses up a rewrite, so after as many rounds as there are rewrites none is left at a hop of the
+-- round (round_and_round); the way there, gone branch by branch (Leads.leads_walk), is a walk that ends at the limit
+-- (limit_walk).
 pub limit_shown : (config : Config) (rewrites : ℕ) (followed : List Labels) → IsInForce config rewrites followed
     → (query : Labels) (rtype : RrType) (walk : Walk) → IsWalk (following config rewrites followed) query rtype walk
     → (back : ComesBack walk) → (place : Place) × RewritesAt (hops_round walk back) place × ShowsIn config rewrites query rtype (faults.Limit place)

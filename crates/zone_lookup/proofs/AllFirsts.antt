@@ -58,6 +58,6 @@ module _ {X Y : Type 0} (tell : X → Y) (name_of : Y → Labels) (all : List Y)
       (subst (λ (n : Labels). name_cmp (get_or (map key items) i []) n ≡ Less) (get_or-map key items j d [] within)
       (before_later (map key items) are.ordered i j [] before (omega (arith, within, length-map items key)))))))
 
-  -- as many as the values are the values
+  -- the first items by name are all items, if they are as many
   pub all_firsts : length items ≡ length all → IsPermutation all (map tell items)
   all_firsts many = all_among (map tell items) all differ from_all (omega (arith, length-map items tell, many))

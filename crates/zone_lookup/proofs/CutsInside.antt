@@ -22,7 +22,7 @@ shorter_begins a b name (x, e) (y, f) less = by (two_fronts a x b y (e ∙ sym f
   by (inl begins) = is_prefix_told a b begins
   by (inr (rest, is)) = absurd (omega (arith, less, ap (λ (n : Labels). length n) is, length-append b rest))
 
--- so the zone cut of a referral is below the zone's origin
+-- the zone cut of a referral is below the zone's origin
 pub cut_inside : (zone : Zone) (name : Labels) (rtype : RrType) (cut : Labels) (names : List Labels) → Begins zone.origin name
     → found zone name rtype ≡ found_as.Referral cut names → is_prefix zone.origin cut ≡ true
 cut_inside zone name rtype cut names begins e =

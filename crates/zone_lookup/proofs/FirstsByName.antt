@@ -77,7 +77,7 @@ module _ {X Y : Type 0} (tell : X → Y) (name_of : Y → Labels) where
       by name false e =
           finds.firsts name ∙ sym (ap (λ (b : Bool). cond b (Some (tell x)) (find (λ (one : Y). name_eq (name_of one) name) all)) e)
 
-  -- the same of the item before a place in a list
+  -- a map of the first items by name, with the item before a place put in, finds the first items from that place on
   pub put_before : (all : List Y) (left : ℕ) (item : Y) (key : Bor Labels) (x : X) (old new : BTreeMap (Bor Labels) X) → 0 < left → left ≤ length all
       → item ≡ get_or all (left - 1) item → tell x ≡ item → key.now ≡ name_of item → FindsFirsts tell name_of (drop left all) old
       → new.entries ≡ insert_entry borrowed_cmp old.entries key x → Updates borrowed_cmp old new key (Some x)
@@ -108,7 +108,7 @@ module _ {X Y : Type 0} (tell : X → Y) (name_of : Y → Labels) where
       (ap (λ (k : Labels). name_eq k name) (sym keyed.0) ∙ same_test entry.0.now name)
       ∙ ap (λ (o : Option X). cond (is_eq (name_cmp name entry.0.now)) (Some entry.1) o) (found_as_key name entries keyed.1)
 
-  -- they are the firsts, in the order of names
+  -- the values of a map that finds the first items by name are those items, in the order of names
   pub values_are : (all : List Y) (items : BTreeMap (Bor Labels) X) (values : List X) → FindsFirsts tell name_of all items
       → IsStrictlySortedBy borrowed_cmp (keys_of items.entries) → values ≡ values_of items.entries → AreFirstsByName tell name_of all values
   values_are all items values finds sorted are =
@@ -162,7 +162,7 @@ module _ {X : Type 0} (key : X → Labels) (name : Labels) where
             (names_total.antisymm name (key x) ∙ ap ordering_reverse (subst (λ (y : X). name_cmp (key y) name ≡ Greater) has.2 (parts.1 has.0 x higher has.1)))
       ])
 
--- what a borrowed item tells
+-- what is found behind a reference tells what is found
 pub told : {X Y : Type 0} (tell : X → Y) (r : Option (Bor X)) (found : Option X) → option_map (λ (x : Bor X). x.now) r ≡ found
     → option_map (λ (x : Bor X). tell x.now) r ≡ option_map tell found
 told tell None found e = ap (option_map tell) e

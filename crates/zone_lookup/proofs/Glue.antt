@@ -14,7 +14,7 @@ use Rattle.net_model.specs.Nearest.{server_named, zone_with_origin, held_zone}
 use Rattle.net_model.specs.Zone.{exists_in, owns, has_address}
 use Rattle.net_model.proofs.OpenTails.{owner_exists}
 
--- a name at or below one that is at or below another
+-- a name that is at or below a second, which is at or below a third, is at or below the third
 pub further_below : (a b c : Labels) → is_prefix a b ≡ true → is_prefix b c ≡ true → is_prefix a c ≡ true
 further_below a b c one other =
     let first = is_prefix_tells a b one in
@@ -37,7 +37,7 @@ missing_owns zone name rtype inside missing = by (owns zone name rtype) refl whe
   by false e = refl
   by true e = let there : exists_in zone name ≡ true = owner_exists zone name rtype inside e in cc
 
--- so it has no address
+-- a name that doesn't exist has no address
 pub missing_has_none : (zone : Zone) (name : Labels) → is_prefix zone.origin name ≡ true → exists_in zone name ≡ false
     → has_address zone name ≡ false
 missing_has_none zone name inside missing =

@@ -18,7 +18,7 @@ use Rattle.net_model.specs.declared.walk.State.{State}
 use Rattle.net_model.proofs.NearestZones.{nearest_tells}
 use Rattle.zone_lookup.proofs.CutsInside.{cut_inside}
 
--- the origin is above the cut
+-- the zone cut of the hop, if it is a referral, is at or below the origin of its zone
 abbrev pub HopInside : Hop → Type 0
 HopInside (Refer cut) = is_prefix cut.zone cut.cut ≡ true
 HopInside (Rewrite place by_dname to) = Unit {0}
@@ -68,7 +68,7 @@ module _ (setting : Setting) (state : State) where
       either_list (nat_lt state.used setting.rewrites) _ _ (of_servers _ by_dname to (servers_after setting.config state to)) (tt, tt)
   of_found origin (found_as.TooLong owner) inside = either_list (nat_lt state.used setting.rewrites) _ _ (tt, tt) (tt, tt)
 
-  -- so each branch of a state
+  -- each referral of a state's branches has its zone cut at or below the origin of its zone
   pub next_inside : (rtype : RrType) → AllByRecursion BranchInside (next setting rtype state)
   next_inside rtype = by (nearest_of setting.config state.server state.name) refl where
     by : (zone : Option Zone) → nearest_of setting.config state.server state.name ≡ zone → AllByRecursion BranchInside (in_zone setting rtype state zone)

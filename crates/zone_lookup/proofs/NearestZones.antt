@@ -39,7 +39,7 @@ module _ (test : Labels → Bool) (name : Labels) where
         ap (λ (x : Labels). take k name ++ x) (sym found.2) ∙ sym (front_is_take (take k name ++ (label ∷ found.0)) begins.0 name whole),
       )
 
-  -- the longest front that passes, where none with more labels does
+  -- a front that passes a test is the longest prefix that does, if no front with more labels passes
   pub longest_at : (k : ℕ) → k ≤ length name → test (take k name) ≡ true → ((j : ℕ) → k < j → j ≤ length name → test (take j name) ≡ false)
       → longest test name ≡ Some (take k name)
   longest_at k within passes fails =
@@ -48,7 +48,7 @@ module _ (test : Labels → Bool) (name : Labels) where
       (λ below has. let one = further k (drop k name) below within (take-append-drop k name) has in ap test one.3 ∙ fails one.0 one.1 one.2)
       ∙ longest_itself test (take k name) passes
 
-  -- and that none passes
+  -- if no front of a name passes a test, no longest prefix does
   pub longest_none : ((j : ℕ) → j ≤ length name → test (take j name) ≡ false) → longest test name ≡ None
   longest_none fails =
       find_none test (reverse (prefixes name)) (λ above has.
@@ -62,20 +62,20 @@ module _ (server : Server) (name : Labels) where
   abbrev holds : Labels → Bool
   holds above = is_some (zone_with_origin server above)
 
-  -- the zone is the nearest, where no longer front is an origin
+  -- the zone whose origin is a front of the name is the server's nearest, if no longer front is an origin
   pub nearest_at : (k : ℕ) (zone : Zone) → k ≤ length name → zone_with_origin server (take k name) ≡ Some zone
       → ((j : ℕ) → k < j → j ≤ length name → holds (take j name) ≡ false) → nearest server name ≡ Some zone
   nearest_at k zone within is none =
       ap (option_and_then (zone_with_origin server)) (longest_at holds name k within (ap is_some is) none) ∙ is
 
-  -- it has the name
+  -- a zone whose origin is a front of the name has the name at or below its origin
   pub nearest_has : (k : ℕ) (zone : Zone) → zone_with_origin server (take k name) ≡ Some zone → is_prefix zone.origin name ≡ true
   nearest_has k zone is =
       let origin : zone.origin ≡ take k name =
       (name_eq_decides zone.origin (take k name)).0 (found_there (λ (z : Zone). name_eq z.origin (take k name)) server.zones zone is).1 in
       is_prefix_told zone.origin name (drop k name, ap (λ (x : Labels). x ++ drop k name) origin ∙ take-append-drop k name)
 
-  -- and there is none, where no front is an origin
+  -- a server has no nearest zone for a name of which no front is an origin
   pub nearest_none : ((j : ℕ) → j ≤ length name → holds (take j name) ≡ false) → nearest server name ≡ None
   nearest_none none = ap (option_and_then (zone_with_origin server)) (longest_none holds name none)
 
@@ -98,10 +98,10 @@ module _ (server : Server) (name : Labels) (trees : List ZoneTree)
         nearest_at server name longest.labels tree.zone longest.within zone_there
         (λ j more within. is_held (take j name) ∙ longest.none_longer j (omega arith) within)
 
-    -- which has the name
+    -- the tree of the longest origin has the name at or below its origin
     pub tree_has : is_prefix tree.zone.origin name ≡ true
     tree_has = nearest_has server name longest.labels tree.zone zone_there
 
-  -- no tree, no nearest zone
+  -- a server without a tree at a front of the name has no nearest zone for it
   pub nearest_of_none : NoneFrom (tree_at trees) name (length name) 0 → nearest server name ≡ None
   nearest_of_none none = nearest_none server name (λ j within. is_held (take j name) ∙ none j (omega arith) within)

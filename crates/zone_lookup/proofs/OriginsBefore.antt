@@ -55,7 +55,7 @@ module _ {X : Type 0} (key : X → Labels) (xs : List X) (sorted : IsStrictlySor
               | inr higher ↦ absurd (not_after k i x few higher below named)
             ]
 
-    -- where none stands before the place, no front is a name
+    -- if no item stands before the place of a search, no front of the name is an item's name
     pub none_before : place ≡ 0 → (k : ℕ) → 0 ≤ k → k ≤ count → is_some (found (take k name)) ≡ false
     none_before first = none_by 0 (λ k i x many few lower named. absurd (omega (arith, first)))
 
@@ -66,7 +66,7 @@ module _ {X : Type 0} (key : X → Labels) (xs : List X) (sorted : IsStrictlySor
       less : Before (key last) (take count name)
       less = subst (λ (x : X). name_cmp (key x) (take count name) ≡ Less) (sym is_last) (parts.0 (place - 1) last (omega arith) (omega arith))
 
-      -- it has not the whole front in common with the name
+      -- the item before the place of a search doesn't have the whole front in common with the name
       pub fewer : common < count
       fewer = elim (cases_lt common count) [
         | inl lower ↦ lower
@@ -102,11 +102,11 @@ module _ {X : Type 0} (key : X → Labels) (xs : List X) (sorted : IsStrictlySor
           let long : length (take k name) ≡ k = length-take-le k name (omega arith) in
           absurd (omega arith)
 
-      -- so no front that is a name has more labels than it has in common
+      -- no front with more labels than the item before the place has in common with the name is an item's name
       pub none_longer : (k : ℕ) → common + 1 ≤ k → k ≤ count → is_some (found (take k name)) ≡ false
       none_longer = none_by (common + 1) not_before
 
-      -- and where it has all its labels in common, it is itself such a front
+      -- the item before the place is the one at a front of the name, if it has all its labels in common with the name
       pub itself : common ≡ length (key last) → found (take common name) ≡ Some last
       itself all =
           let front : key last ≡ take common name =

@@ -30,11 +30,11 @@ module _ {X : Type 0} (order : X → Ordering) (xs : List X) (place : ℕ) where
       is_greater (order (get_or xs k d))
       (subst (λ (o : Ordering). ordering_index o ≤ ordering_index (order (get_or xs k d))) (greater d) (rises (place + 1) k d low high))
 
-  -- so between the two there is the name's place
+  -- the name's place is between an item that stands before the name and a next one that stands behind it
   pub between_two : place < length xs → HoldsAt (λ x. order x ≡ Less) xs place → HoldsAt (λ x. order x ≡ Greater) xs (place + 1)
       → IsBinarySearchResult order xs (Err (place + 1))
   between_two within less greater = λ rises. (all_before within less rises, all_behind greater rises)
 
-  -- or behind the last one
+  -- the name's place is behind the last item, if that stands before the name
   pub behind_last : place < length xs → HoldsAt (λ x. order x ≡ Less) xs place → length xs ≤ place + 1 → IsBinarySearchResult order xs (Err (place + 1))
   behind_last within less last = λ rises. (all_before within less rises, λ k d low high. absurd (omega arith))

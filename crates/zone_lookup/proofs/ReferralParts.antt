@@ -16,12 +16,12 @@ use Rattle.zone_lookup.specs.Sound.{depends_on_itself, wants_glue}
 
 -- ---- a fault that is shown, or none
 
--- what is shown is the fault, and it is shown
+-- a fault among the one that is shown, or none, is that one, and it is shown
 pub shown_one : (b : Bool) (fault other : Fault) → Contains (if_shown b fault) other → (b ≡ true) × (fault ≡ other)
 shown_one true fault other has = (refl, elim (first_or_later fault [] other has) [ inl same ↦ same | inr none ↦ absurd (none_in_nil other none) ])
 shown_one false fault other has = absurd (none_in_nil other has)
 
--- a fault that is shown is there
+-- a fault that is shown is among what is shown
 pub one_shown : (b : Bool) (fault : Fault) → b ≡ true → Contains (if_shown b fault) fault
 one_shown true fault e = has_first fault []
 one_shown false fault e = cc
@@ -47,7 +47,7 @@ module _ (config : Config) (deps : Deps) (cut : Cut) where
 
   -- ---- what the zones show is among the faults
 
-  -- where the zones list other name servers, that they do
+  -- if the zones at both sides list other name servers, that is among the referral's faults
   pub has_differs : zones_differ config cut ≡ true → Contains (referral_faults config deps cut) (faults.Differs cut)
   has_differs e =
       let fault = faults.Differs cut in
@@ -55,7 +55,7 @@ module _ (config : Config) (deps : Deps) (cut : Cut) where
       (Contains-append_left (differing ++ missing) other_glue fault
       (Contains-append_left differing missing fault (one_shown (zones_differ config cut) fault e)))
 
-  -- where the name server needs glue and has none, that it is missing
+  -- if the name server needs glue and has none, that is among the referral's faults
   pub has_no_glue : wants_glue config cut ≡ true → Contains (referral_faults config deps cut) (faults.NoGlue cut)
   has_no_glue e =
       let fault = faults.NoGlue cut in
@@ -63,14 +63,14 @@ module _ (config : Config) (deps : Deps) (cut : Cut) where
       (Contains-append_left (differing ++ missing) other_glue fault
       (Contains-append_right differing missing fault (one_shown (wants_glue config cut) fault e)))
 
-  -- where the zones hold other addresses of the name server, that they do
+  -- if the zones at both sides hold other addresses of the name server, that is among the referral's faults
   pub has_other_glue : addresses_differ config cut ≡ true → Contains (referral_faults config deps cut) (faults.GlueDiffers cut)
   has_other_glue e =
       let fault = faults.GlueDiffers cut in
       Contains-append_left (differing ++ missing ++ other_glue) cyclic fault
       (Contains-append_right (differing ++ missing) other_glue fault (one_shown (addresses_differ config cut) fault e))
 
-  -- where the name server's address depends on itself, that it does
+  -- if the name server's address depends on itself, that is among the referral's faults
   pub has_cyclic : depends_on_itself config deps cut ≡ true → Contains (referral_faults config deps cut) (faults.Cyclic cut)
   has_cyclic e =
       let fault = faults.Cyclic cut in
@@ -103,6 +103,6 @@ module _ (config : Config) (deps : Deps) (cut : Cut) where
     by true has = has
     by false has = absurd (none_in_nil fault has)
 
-  -- and all of them, where it is at or below its zone's origin
+  -- each fault of a referral is one of its zone cut, if the cut is at or below its zone's origin
   pub in_cut : is_prefix cut.zone cut.cut ≡ true → (fault : Fault) → Contains (referral_faults config deps cut) fault → Contains (cut_faults config deps cut) fault
   in_cut inside fault has = subst (λ (b : Bool). Contains (if b then referral_faults config deps cut else []) fault) (sym inside) has

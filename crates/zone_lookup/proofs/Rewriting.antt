@@ -44,7 +44,7 @@ module _ (config : Config) (state : State) (place : Place) (by_dname : Bool) (to
         zone = option_map (λ (one : Zone). one.origin) found;
       }) ∷ []) (sym near)
 
-  -- and where it finds none, it has a branch at each top server
+  -- if the state's server has no zone for the new name, the rewrite has a branch at each top server
   pub rewritten_at_tops : None ≡ nearest_of config state.server to → rewritten config state place by_dname to ≡ map at_server config.tops
   rewritten_at_tops near =
       ap (λ (found : Option Zone). map at_server (if is_some found then state.server ∷ [] else config.tops)) (sym near)

@@ -51,11 +51,11 @@ module _ (zone : Zone) (name : Labels) (inside : is_prefix zone.origin name ≡ 
   none_of : (rtype : RrType) → filter (is_of name rtype) zone.rrs ≡ []
   none_of rtype = filter_none (is_of name rtype) zone.rrs (missing_owns zone name rtype inside missing)
 
-  -- has no name servers there
+  -- a name that doesn't exist in the zone has no name servers there
   pub none_listed : [] ≡ ns_names zone name
   none_listed = sym (ap (λ (rrs : List Rr). in_order name_cmp (filter_map target_of (map (λ (rr : Rr). rr.rdata) rrs))) (none_of types.Ns))
 
-  -- and no addresses
+  -- a name that doesn't exist in the zone has no addresses there
   pub no_addresses : [] ≡ addresses zone name
   no_addresses =
       sym (ap (λ (rrs : List Rr). in_order data_cmp (map (λ (rr : Rr). rr.rdata) rrs ++ map (λ (rr : Rr). rr.rdata) (filter (is_of name types.Aaaa) zone.rrs))) (none_of types.A)

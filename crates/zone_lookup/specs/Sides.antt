@@ -25,7 +25,7 @@ sides_differ cut (Some above) (Some below) = not (names_eq (ns_names above cut.c
 abbrev pub zones_differ : Config → Cut → Bool
 zones_differ config cut = sides_differ cut (held_zone config cut.server cut.zone) (held_zone config cut.ns cut.cut)
 
--- neither has no data, and they aren't the same
+-- both lists have data, and not the same
 abbrev pub both_differ : List Rdata → List Rdata → Bool
 both_differ above below = not (length above == 0) && not (length below == 0) && not (pointwise data_eq above below)
 

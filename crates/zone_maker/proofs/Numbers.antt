@@ -18,7 +18,7 @@ range_more : (n : ℕ) → range_with_len 0 (n + 1) ≡ range_with_len 0 n ++ n 
 range_more n = ap (range_with_len 0) (let e : n + 1 ≡ suc n = omega arith in e) ∙ range_suc 0 n
     ∙ ap (λ k. range_with_len 0 n ++ k ∷ []) (let e : 0 + n ≡ n = omega arith in e)
 
--- and so does what it gives
+-- what numbers give in a row, with one more, is followed by what that one gives
 pub gives_more : (f : ℕ → List ℕ) (begin : List ℕ) (n : ℕ)
     → begin ++ flat_map f (range_with_len 0 (n + 1)) ≡ (begin ++ flat_map f (range_with_len 0 n)) ++ f n
 gives_more f begin n =
@@ -31,7 +31,7 @@ with_both : (files : FilesInMemory) (first rest : List (List ℕ × List ℕ)) �
 with_both files [] rest = refl
 with_both files ((name, text) ∷ first) rest = with_both (with_file files name text) first rest
 
--- one file more
+-- putting in the files of so many numbers and one more is putting in the files of so many, and then that of the one
 pub files_more : (files : FilesInMemory) (f : ℕ → List ℕ × List ℕ) (n : ℕ)
     → with_files files (map f (range_with_len 0 (n + 1))) ≡ with_files (with_files files (map f (range_with_len 0 n))) (f n ∷ [])
 files_more files f n =

@@ -10,7 +10,7 @@ with_files_fails : (files : FilesInMemory) (more : List (List ℕ × List ℕ)) 
 with_files_fails files [] = refl
 with_files_fails files ((name, text) ∷ more) = with_files_fails (with_file files name text) more
 
--- in a drill none is
+-- in the files of a drill no call is to fail
 pub drill_none_listed : (zones : ℕ) → NoneListed (drill zones)
 drill_none_listed zones = with_files_fails (no_files []) (drill_files zones)
 

@@ -10,7 +10,7 @@ held Untold = Untold
 held NotHeld = Holds []
 held (Holds octets) = Holds octets
 
--- what such files tell, from the start
+-- what files in memory tell of each name: its octets, or none for a name that no file has
 abbrev pub told_of : FilesInMemory → List ℕ → Told
 told_of files = λ name. held (told_by files name)
 

@@ -43,7 +43,7 @@ shows_answers view origin one row of_class at servers =
     ap (λ (class : Class). is_alone row.origin class && list_any (answers_at row.server) view.ends) of_class
     ∙ (λ i. name_eq (sym at i) row.origin && (sym (any_server row.server view.ends) ∙ ap (list_any (name_eq row.server)) (sym servers)) i)
 
--- the words once it was shown
+-- the words of rows, once the view of an origin was shown, are those by the servers that answer there too
 pub words_more : (view : View) (rows : List RowFiles) (answered : List Answered) (one : Answered) → ((row : RowFiles) → shows_reached view row ≡ is_answering row.server row.origin one)
     → map (λ row. reached_word (is_row_answered (answered ++ one ∷ []) row)) rows ≡ after_view view rows (map (λ row. reached_word (is_row_answered answered row)) rows)
 words_more view rows answered one shows =
@@ -55,7 +55,7 @@ words_more view rows answered one shows =
         ∙ (λ i. is_row_answered answered row || (shows row ∙ sym (or-false (is_answering row.server row.origin one))) i)
         ∙ sym (list_any-append (is_answering row.server row.origin) answered (one ∷ []))
 
--- the words once another view was shown
+-- the words of rows stay once the view of a class below a name was shown
 pub words_stay : (view : View) (above : Labels) (rows : List RowFiles) (told : RowFiles → Bool) → view.class ≡ Below above
     → map (λ row. reached_word (told row)) rows ≡ after_view view rows (map (λ row. reached_word (told row)) rows)
 words_stay view above rows told of_class =
@@ -64,7 +64,7 @@ words_stay view above rows told of_class =
 
 -- ---- sets of what tells of servers and origins
 
--- a server and an origin more
+-- a set to which a server and an origin were added tells of them, and of what it told
 pub tells_more : (old new : tree.BTreeSet (List Labels)) (key : List Labels) (item at : Labels) → key ≡ item ∷ at ∷ [] → tree.Updates (slice_cmp name_cmp) old new key true
     → (server origin : Labels) → tells new server origin ≡ (tells old server origin || (name_eq at origin && name_eq server item))
 tells_more old new key item at is updates server origin =
@@ -85,7 +85,7 @@ tells_more old new key item at is updates server origin =
     by false true has = sym (or-false has)
     by false false has = sym (or-false has)
 
--- the servers so far of one origin, and one more
+-- the servers that answer at an origin with one more are those before and that one
 pub servers_more : (before here some one : Bool) → ((before || (here && some)) || (here && one)) ≡ (before || (here && (some || one)))
 servers_more true here some one = refl
 servers_more false true some one = refl

@@ -14,7 +14,7 @@ more t x columns some s is =
     ∙ append_assoc t (separated tab columns ++ tab) x
     ∙ ap (λ r. t ++ r) (sym (separated-push tab columns x some))
 
--- five columns
+-- five columns put one after another with tabs between them are the line of five columns
 pub five_columns : (t a b c d e : List ℕ)
     → ((((((((t ++ a) ++ tab) ++ b) ++ tab) ++ c) ++ tab) ++ d) ++ tab) ++ e ≡ t ++ separated tab (a ∷ b ∷ c ∷ d ∷ e ∷ [])
 five_columns t a b c d e =
@@ -39,7 +39,7 @@ seven_columns t a b c d e f g =
     let x : List ℕ = (((((((t ++ a) ++ tab) ++ b) ++ tab) ++ c) ++ tab) ++ d) ++ tab in
     ap (λ r. (r ++ tab) ++ g) (sym (append_assoc x e (tab ++ f)) ∙ sym (append_assoc (x ++ e) tab f)) ∙ seven
 
--- three columns more, and the end of the line
+-- columns with three more and the end of the line behind them are a line of all of them
 pub three_more : (t : List ℕ) (columns : List (List ℕ)) (a b c : List ℕ) → 0 < length columns
     → (((((((t ++ separated tab columns) ++ tab) ++ a) ++ tab) ++ b) ++ tab) ++ c) ++ 10 ∷ [] ≡ t ++ columns_line (columns ++ a ∷ b ∷ c ∷ [])
 three_more t columns a b c some =

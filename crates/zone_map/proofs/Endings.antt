@@ -40,14 +40,14 @@ module _ (told : FilesTold) (before after : List ℕ → ℕ) where
     abbrev Ends : List ℕ → Type 0
     Ends file = JobEnds told (Some (record { asked = asked; meta = file })) before after ending
 
-    -- with what was read
+    -- a run whose files were read ends with what is told of what was read, or because memory ran out
     pub over_loaded : (all : Loaded) → loaded own told ≡ Reads all → TellsAsked asked all ending ⊎ (ending ≡ no_memory) → Ends meta
     over_loaded all reads tells = subst Ends same (by tells) where
       by : TellsAsked asked all ending ⊎ (ending ≡ no_memory) → Ends own
       by (inl is) = inl (subst (λ (read : Reading Loaded). OfReading own (TellsAsked asked) read ending) (sym reads) is)
       by (inr ran_out) = inr (inr ran_out)
 
-    -- with nothing that was read
+    -- a run whose files weren't read ends by the fault, or because memory ran out
     pub over_none : (fault : LoadFault)
         → Gives {T = Loaded} (loaded own told) (Err fault) → FailedWhereItCame {T = Loaded} (loaded own) told (Err fault) → FailedAt {T = Loaded} before after (Err fault)
         → IsNotLoaded own fault ending ⊎ (ending ≡ no_memory) → Ends meta

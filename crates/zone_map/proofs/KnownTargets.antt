@@ -10,18 +10,18 @@ use Rattle.net_model.specs.Step.{Setting}
 use Rattle.zone_map.specs.TargetsAsked.{AreKnown, ends_in}
 use Rattle.zone_map.specs.declared.target_ends.TargetEnds.{TargetEnds}
 
--- what is known with the same entries
+-- what is known of names stays so in a map that is unchanged
 pub known_same : (setting : Setting) (old new : map.BTreeMap Labels TargetEnds) → AreKnown setting old → map.IsUnchanged old new → AreKnown setting new
 known_same setting old new known same name ends is =
     known name ends (ap (λ (entries : List (Labels × TargetEnds)). lookup (λ (key : Labels). is_eq (name_cmp name key)) entries) (sym same) ∙ is)
 
--- nothing is known without entries
+-- a map without entries knows of no name
 pub none_known : (setting : Setting) (known : map.BTreeMap Labels TargetEnds) → map.IsEmpty known → AreKnown setting known
 none_known setting known empty name ends is =
     let none : None ≡ Some ends = ap (λ (entries : List (Labels × TargetEnds)). lookup (λ (key : Labels). is_eq (name_cmp name key)) entries) (sym empty) ∙ is in
     absurd cc
 
--- what is known of one name more
+-- what is known of names stays so with how the walks of one name more end
 pub known_more : (setting : Setting) (old new : map.BTreeMap Labels TargetEnds) (name key : Labels) (ends : TargetEnds) → AreKnown setting old
     → map.Updates name_cmp old new key (Some ends) → key ≡ name → ends ≡ ends_in setting name → AreKnown setting new
 known_more setting old new name key ends known updates one are other found is =

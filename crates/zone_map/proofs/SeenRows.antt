@@ -18,7 +18,7 @@ one_word : (shown was : Bool) → reached_word (shown || was) ≡ cond shown (co
 one_word true was = refl
 one_word false was = refl
 
--- where this is told of each row, this is once a view was shown
+-- the words of rows, once a view was shown, say of each row that the view shows it or that it was told before
 pub one_view : (view : View) (told : RowFiles → Bool) (rows : List RowFiles)
     → after_view view rows (map (λ row. reached_word (told row)) rows) ≡ map (λ row. reached_word (shows_reached view row || told row)) rows
 one_view view told [] = refl
@@ -69,11 +69,11 @@ one_told true false e = let long : 7 ≡ 9 = ap length e in absurd (omega (arith
 one_told false true e = let long : 9 ≡ 7 = ap length e in absurd (omega (arith, long))
 
 module _ (test : RowFiles → Bool) where
-  -- there are as many as rows
+  -- as many rows are told of as there are
   pub as_many : (told : List Bool) (rows : List RowFiles) → map reached_word told ≡ map (λ row. reached_word (test row)) rows → length told ≡ length rows
   as_many told rows e = sym (length-map told reached_word) ∙ ap length e ∙ length-map rows (λ row. reached_word (test row))
 
-  -- of each row they tell what the test says, and what it means
+  -- what is told of each row is what the test says of it, and what that means
   pub tell_rows : (P : RowFiles → Type 0) (told : List Bool) (rows : List RowFiles) → map reached_word told ≡ map (λ row. reached_word (test row)) rows
       → ((row : RowFiles) → Contains rows row → (test row ≡ true) ↔ P row) → AllZip (λ (row : RowFiles) (one : Bool). (one ≡ true) ↔ P row) rows told
   tell_rows P [] [] e means = tt
@@ -99,7 +99,7 @@ line_more text all told rows i d row there is also before =
     append_assoc text (columns_line (row_columns (i + 1) (get_or told i d) row)) (reached_text (i + 1 + 1) (drop (i + 1) told) (drop (i + 1) rows))
     ∙ sym (λ j. text ++ reached_text (i + 1) (of_told j) (of_rows j)) ∙ before
 
--- at last none is left
+-- if no row is left, the lines so far are all lines
 pub lines_end : (text all : List ℕ) (told : List Bool) (rows : List RowFiles) (i : ℕ) → length told ≤ i
     → text ++ reached_text (i + 1) (drop i told) (drop i rows) ≡ all → text ≡ all
 lines_end text all told rows i past before =

@@ -41,11 +41,11 @@ has_at_end items item = Contains-append_right items (item ∷ []) item (has_firs
 
 -- ---- origins that were shown
 
--- at first none was
+-- an empty set has no origin that was shown
 pub none_shown : (shown : tree.BTreeSet Labels) → tree.IsEmpty shown → (origin : Labels) → is_shown shown origin ≡ false
 none_shown shown empty origin = ap (λ (keys : List Labels). list_any (λ (key : Labels). is_eq (name_cmp origin key)) keys) empty
 
--- one more
+-- an origin was shown once one more was put into the set, if it was shown before or is that one
 pub shown_more : (old new : tree.BTreeSet Labels) (key origin : Labels) → key ≡ origin → tree.Updates name_cmp old new key true
     → (other : Labels) → is_shown new other ≡ (is_shown old other || name_eq other origin)
 shown_more old new key origin is updates other =
@@ -60,7 +60,7 @@ Step = List (List ℕ) → View → List (List ℕ)
 module _ (queries : LimitedQueries) where
   -- ---- what a check has seen
 
-  -- of one origin, by the graph of its walks
+  -- a check was shown the view of one origin, by the graph of its walks
   pub seen_one : (step : Step) (origin : Labels) (graph : PlainGraph) (view : View) (before after : List (List ℕ)) → IsLeastGraph queries.config queries.rewrites origin graph
       → (Passes queries origin → ⊥) → view.class ≡ Exact origin → ((setting : Setting) → IsGraphOf setting origin graph → AreEnds setting origin view.ends)
       → after ≡ step before view → HasSeenOrigin step queries origin before after
@@ -76,7 +76,7 @@ module _ (queries : LimitedQueries) where
     holds = holds;
   }
 
-  -- of none
+  -- a check was shown the views of no rows' origins
   pub seen_none : (step : Step) (words : List (List ℕ)) → HasSeenOrigins step queries [] words words
   seen_none step words = record {
     none_passes = λ row has. absurd (none_in_nil row has);
@@ -127,7 +127,7 @@ module _ (queries : LimitedQueries) where
     holds = next.holds ∙ same b next.view ∙ ap (λ words. step words next.view) seen.holds ∙ sym (fold_push step a seen.views next.view);
   }
 
-  -- of one more row, where these were shown before
+  -- a check was shown the views of the origins of one row more
   pub seen_more : (step other : Step) (rows : List RowFiles) (i : ℕ) (row : RowFiles) (a b c : List (List ℕ)) (was_shown : Labels → Bool) → i < length rows → row ≡ get_or rows i row
       → ((words : List (List ℕ)) (view : View) → other words view ≡ step words view) → ((origin : Labels) → was_shown origin ≡ list_any (λ (r : RowFiles). name_eq origin r.origin) (take i rows))
       → HasSeenOrigins step queries (take i rows) a b → HasSeenNew other queries was_shown row.origin b c → HasSeenOrigins step queries (take (i + 1) rows) a c
@@ -140,13 +140,13 @@ module _ (queries : LimitedQueries) where
         | inr next ↦ seen_next step other (take i rows) row a b c same seen next
       ])
 
-  -- of all
+  -- a check was shown the views of the origins of all rows
   pub seen_all : (step : Step) (rows : List RowFiles) (i : ℕ) (a b : List (List ℕ)) → length rows ≤ i → HasSeenOrigins step queries (take i rows) a b → HasSeenOrigins step queries rows a b
   seen_all step rows i a b past seen = subst (λ (some : List RowFiles). HasSeenOrigins step queries some a b) (take_all i rows past) seen
 
   -- ---- where a run ends
 
-  -- at a row behind others, none of which passes
+  -- a run ends among the rows at the next row's origin, if none of the rows before passes
   pub ends_at_row : (rows : List RowFiles) (i : ℕ) (row : RowFiles) (ending : Ending) → i < length rows → row ≡ get_or rows i row → NoOriginPasses queries (take i rows)
       → EndsAt queries row.origin ending → EndsAmongRows queries rows ending
   ends_at_row rows i row ending there is none (inl (passes, so)) =

@@ -34,7 +34,7 @@ module _ (setting : Setting) (name : Labels) (rtype : RrType) where
   few : nat_lt most_target_walks (length all) ≡ false → HasMoreWalks setting name rtype most_target_walks → ⊥
   few e = has_no_more setting rtype depth name most_target_walks (grind (arith, nat_tests, e)) (query_settles setting rtype name).1
 
-  -- where there are more than are followed
+  -- if a name has more walks with the type than are followed, its ends say so
   pub ends_many : HasMoreWalks setting name rtype most_target_walks → Some TooMany ≡ type_ends setting name rtype
   unfolding type_ends
   ends_many more = by (nat_lt most_target_walks (length all)) refl where
@@ -42,7 +42,7 @@ module _ (setting : Setting) (name : Labels) (rtype : RrType) where
     by true e = refl
     by false e = absurd (few e more)
 
-  -- where there are no more, as these end, which are all
+  -- if a name has no more walks with the type than are followed, its ends are those of all its walks
   pub ends_few : (walks : List Walk) → AreWalks setting name rtype walks → (HasMoreWalks setting name rtype most_target_walks → ⊥)
       → dead_ends walks ≡ type_ends setting name rtype
   unfolding type_ends
@@ -51,7 +51,7 @@ module _ (setting : Setting) (name : Labels) (rtype : RrType) where
     by true e = absurd (none (many e))
     by false e = ap dead_ends (one_walks setting name rtype walks all they are)
 
-  -- this is how they end
+  -- how all walks of a name with the type end is as the definition of ends says
   pub ends_so : EndSo setting name rtype (type_ends setting name rtype)
   unfolding type_ends
   ends_so = by (nat_lt most_target_walks (length all)) refl where
@@ -59,6 +59,6 @@ module _ (setting : Setting) (name : Labels) (rtype : RrType) where
     by true e = inl (many e, refl)
     by false e = inr (few e, (all, are, refl))
 
--- of both types
+-- how the walks of a name of type A and of type AAAA end is as the definition of ends says
 pub ends_are : (setting : Setting) (name : Labels) → AreTargetEnds setting name (ends_in setting name)
 ends_are setting name = record { four = ends_so setting name types.A; six = ends_so setting name types.Aaaa }

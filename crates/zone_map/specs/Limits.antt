@@ -18,7 +18,7 @@ reached_queries config = limited_to config most_rewrites most_states
 abbrev pub NoOriginPasses : LimitedQueries → List RowFiles → Type 0
 NoOriginPasses queries rows = (row : RowFiles) → Contains rows row → Passes queries row.origin → ⊥
 
--- it is the origin of the first of these rows whose origin does
+-- the query is the origin of the first of these rows whose origin reaches more pairs of state and type than it may
 pub record IsFirstOriginPassed (queries : LimitedQueries) (rows : List RowFiles) (query : Labels) : Type 0 where
   pub before : List RowFiles
   pub row : RowFiles
@@ -28,8 +28,8 @@ pub record IsFirstOriginPassed (queries : LimitedQueries) (rows : List RowFiles)
   pub passes : Passes queries query
   pub first : NoOriginPasses queries before
 
--- what is given of rows where the name of no server reaches too many pairs: where no row's origin does, the run ends so,
--- and else the first that does is told
+-- what is given of rows: the first of their origins that reaches more pairs of state and type than it may is told;
+-- without such an origin the run ends as given
 abbrev pub WithinOrigins : LimitedQueries → List RowFiles → Type 0 → Ending → Type 0
 WithinOrigins queries rows EndsSo ending =
     ((origin : Labels) × IsFirstOriginPassed queries rows origin × (ending ≡ too_many_states most_states origin))

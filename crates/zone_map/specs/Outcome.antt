@@ -17,8 +17,8 @@ use Rattle.zone_map.specs.declared.words.MapView.{MapView}
 use Rattle.zone_map.specs.declared.words.MapView.TheVariants.{Records, Reached, Targets}
 use Rattle.zone_map.specs.declared.words.MapJob.{MapJob}
 
--- what is told of what was read: for `records` the lines of all records, for `reached` those of all rows, for `targets`
--- those of records whose target leads nowhere
+-- what a view prints of a configuration: for `records` the lines of all records, for `reached` the lines of all rows,
+-- for `targets` the lines of the records whose target leads nowhere
 abbrev pub TellsAsked : MapView → Loaded → Ending → Type 0
 TellsAsked Records all ending = ending ≡ with_output Clean (records_text all)
 TellsAsked Reached all ending = WithinLimits all.config all.rows (TellsRows all.config all.rows ending) ending

@@ -15,7 +15,7 @@ use Rattle.zone_map.specs.declared.answered.Answered.{Answered}
 abbrev pub is_soa_answer : TypedEnd → Bool
 is_soa_answer end = type_eq end.rtype Soa && is_answer end.leaf
 
--- the server of an end that is one
+-- the server of an end that is an answer of type SOA, or nothing for any other end
 abbrev pub answering_at : TypedEnd → List Labels
 answering_at end = if is_soa_answer end then end.server ∷ [] else []
 
@@ -31,6 +31,6 @@ is_row_answered answered row = list_any (is_answering row.server row.origin) ans
 abbrev pub tells : tree.BTreeSet (List Labels) → Labels → Labels → Bool
 tells tellers server origin = tree.contains (slice_cmp name_cmp) tellers (server ∷ origin ∷ [])
 
--- it tells of each server that answers at an origin, and of no others
+-- the set of pairs of names tells of each server that answers at an origin, and of no others
 abbrev pub TellOfAnswers : List Answered → tree.BTreeSet (List Labels) → Type 0
 TellOfAnswers answered tellers = (server origin : Labels) → tells tellers server origin ≡ list_any (is_answering server origin) answered

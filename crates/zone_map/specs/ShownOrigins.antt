@@ -43,7 +43,7 @@ abbrev pub HasSeenNew : (List (List ℕ) → View → List (List ℕ)) → Limit
 HasSeenNew step queries was_shown origin before after =
     ((was_shown origin ≡ true) × (after ≡ before)) ⊎ HasSeenOrigin step queries origin before after
 
--- it was shown the views of the rows' origins, none of which passes
+-- a check with this step was shown the views of the rows' origins, and none of them passes
 pub record HasSeenOrigins (step : List (List ℕ) → View → List (List ℕ)) (queries : LimitedQueries) (rows : List RowFiles) (before after : List (List ℕ)) : Type 0 where
   pub none_passes : NoOriginPasses queries rows
   pub views : List View

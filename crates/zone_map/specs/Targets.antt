@@ -82,14 +82,14 @@ dead_ends walks =
     else (if list_all (λ walk. is_no_name walk.leaf) walks then Some NxDomain
     else (if list_all (λ walk. is_no_data walk.leaf || is_no_name walk.leaf) walks then Some Either else None))
 
--- this is how all walks of the name with the type end, or there are more than are followed
+-- the ends are those of all walks of the name with the type, or say that there are more walks than are followed
 abbrev pub EndSo : Setting → Labels → RrType → Option DeadEnds → Type 0
 EndSo setting name rtype ends =
     (HasMoreWalks setting name rtype most_target_walks × (ends ≡ Some TooMany))
     ⊎ ((HasMoreWalks setting name rtype most_target_walks → ⊥)
     × ((walks : List Walk) × AreWalks setting name rtype walks × (ends ≡ dead_ends walks)))
 
--- this is how those of type A and those of type AAAA end
+-- the ends are those of the name's walks of type A and of type AAAA
 pub record AreTargetEnds (setting : Setting) (name : Labels) (ends : TargetEnds) : Type 0 where
   pub four : EndSo setting name types.A ends.four
   pub six : EndSo setting name types.Aaaa ends.six

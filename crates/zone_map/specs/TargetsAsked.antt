@@ -19,7 +19,7 @@ pub record Asking : Type 0 where
   pub setting : Setting
   pub served : List Labels
 
--- how so many walks end
+-- how walks end, or that they are more than are followed
 abbrev pub ends_among : List Walk → Option DeadEnds
 ends_among walks = if nat_lt most_target_walks (length walks) then Some TooMany else dead_ends walks
 
@@ -28,7 +28,7 @@ unfoldable pub type_ends : Setting → Labels → RrType → Option DeadEnds
 type_ends setting name rtype =
     ends_among (flat_map (walks_within (query_settles setting rtype name).0 setting rtype) (start setting.config name))
 
--- how those of type A and of type AAAA end
+-- how the walks of a name of type A and those of type AAAA end
 abbrev pub ends_in : Setting → Labels → TargetEnds
 ends_in setting name = record { four = type_ends setting name types.A; six = type_ends setting name types.Aaaa }
 

@@ -32,7 +32,7 @@ module _ (may_have : Labels → Bool) (old new : Before) (before : List Rr) (rr 
       ∙ (ap (λ b. was || b) (put-rival may_have owner rr.owner (name_eq owner rr.owner) has_rival (test rr) refl is may)
       ∙ any-more (λ other. name_eq owner other.owner && test other) before rr was said)
 
-  -- where each of the four parts tells of the record besides what it told, the new ones stand for the records before and it
+  -- what is kept stands for the records before and one more, if each of its four parts tells of that record too
   pub put-stands :
       new.has_soa ≡ (old.has_soa || is_type types.Soa rr)
       → ((query : Labels) → has_name new.cnames query ≡ (has_name old.cnames query || (name_eq query rr.owner && (has_rival && is_type types.Cname rr))))

@@ -78,14 +78,14 @@ module _ (may_have : Labels → Bool) (kept : Before) (before : List Rr) (origin
       (cond (is_type types.Dname rr && stands.dnames rr.owner j) (Some TwoDnames)
       None)))))
 
-  -- a record's fault by what is kept is that of the rule which it breaks behind the records before it
+  -- the fault of a record by what is kept is that of the rule which it breaks behind the records before it
   pub fault-kept : (has_rival : Bool) → has_rival ≡ may_have rr.owner
       → All (λ other. other.owner ≡ rr.owner → (is_type types.Cname other || is_type types.Cname rr) ≡ true → may_have rr.owner ≡ true) before
       → fault_in kept has_rival origin rr ≡ option_map (λ cause. At rr.file rr.line cause) (rule_at origin before rr)
   fault-kept has_rival is rivals = ap (option_map (λ cause. At rr.file rr.line cause)) (by-rival has_rival (sym is) rivals)
 
 module _ (origin : Labels) (rrs : List Rr) (i : ℕ) where
-  -- the records before the next
+  -- the records before the next one, and it, are the records up to it
   pub before-next : (rr : Rr) → i < length rrs → rr ≡ get_or rrs i rr → take i rrs ++ rr ∷ [] ≡ take (i + 1) rrs
   before-next rr below is = sym (take_more rrs i rr below ∙ (λ j. take i rrs ++ sym is j ∷ []))
 
@@ -96,7 +96,7 @@ module _ (origin : Labels) (rrs : List Rr) (i : ℕ) where
       ap (first_fault_behind origin (take i rrs)) (drop-cons rrs i rr below ∙ (λ j. sym is j ∷ drop (sym (add-one i) j) rrs))
       ∙ ap (λ front. option_or (option_map (λ cause. At rr.file rr.line cause) (rule_at origin (take i rrs) rr)) (first_fault_behind origin front (drop (i + 1) rrs))) (before-next rr below is)
 
-  -- the first fault from a record on is its own, or else the first behind it
+  -- the first fault from a record on is the record's, or the first fault behind it
   pub fault-next : (rr : Rr) (fault : Option RuleFault) → i < length rrs → rr ≡ get_or rrs i rr → fault ≡ option_map (λ cause. At rr.file rr.line cause) (rule_at origin (take i rrs) rr)
       → first_fault_behind origin (take i rrs) (drop i rrs) ≡ option_or fault (first_fault_behind origin (take (i + 1) rrs) (drop (i + 1) rrs))
   fault-next rr fault below is first =

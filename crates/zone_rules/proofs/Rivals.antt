@@ -154,7 +154,7 @@ module _ (keys : List (ℕ × Bool)) (i : ℕ) (below : i < length keys) where
       sym (map-append test (take i keys) (get_or keys i (0, false) ∷ []))
       ∙ ap (map test) (sym (take_more keys i (0, false) below))
 
--- the lower keys with those of one more
+-- the lower keys of the items before, with that of the next if it may have a rival, are those of the items up to it
 pub lower-more : (may : ℕ → Bool) (keys : List (ℕ × Bool)) (i : ℕ) (b : Bool) (lower : List (ℕ × Bool)) → i < length keys → lower ≡ lower_keys may (take i keys) → b ≡ may (get_or keys i (0, false)).0
     → lower ++ map lower_key (filter (λ _. b) (get_or keys i (0, false) ∷ [])) ≡ lower_keys may (take (i + 1) keys)
 lower-more may keys i b lower below so_far is =
@@ -166,12 +166,12 @@ lower-more may keys i b lower below so_far is =
 
 -- ---- the keys of items in order
 module _ {A : Type 0} (key : A → ℕ × Bool) (items : List A) (i : ℕ) (item : A) (below : i < length items) (is : item ≡ get_or items i item) where
-  -- the number of the next one
+  -- the number of the next key is that of the next item
   pub read-next : (keys : List (ℕ × Bool)) (read : ℕ × Bool) → keys ≡ map key items → read ≡ get_or keys i read → read.0 ≡ (key item).0
   read-next keys read says is_read =
       ap (λ k. k.0) (is_read ∙ (ap (λ all. get_or all i read) says ∙ (get_or-map key items i item read below ∙ ap key (sym is))))
 
-  -- what was said of the next one
+  -- what was said of the next key is the test of the next item
   pub said-next : (test : A → Bool) (said : List Bool) (b : Bool) → said ≡ map test items → b ≡ get_or said i b → b ≡ test item
   said-next test said b says read =
       read ∙ (ap (λ all. get_or all i b) says ∙ (get_or-map test items i item b below ∙ ap test (sym is)))

@@ -23,7 +23,7 @@ use Rattle.zone_rules.specs.declared.identical.Identity.{Identity}
 abbrev pub sees : Identity → Rr → Bool
 sees query rr = query.number == record_number rr && (name_eq query.owner.now rr.owner && data_eq query.rdata.now rr.rdata)
 
--- what is compared are the number, owner and data
+-- two identities are compared by number, owner and data
 pub same_identity : (query item : Identity) (rr : Rr) → item.number ≡ record_number rr → item.owner.now ≡ rr.owner → item.rdata.now ≡ rr.rdata → (identity_impl.ghosts).eq query item ≡ sees query rr
 same_identity query item rr number owner rdata =
     ap (λ b. query.number == item.number && b)

@@ -14,7 +14,7 @@ pub said_first : (labels : Labels) → is_wildcard labels ≡ said_by false labe
 said_first [] = refl
 said_first (label ∷ labels) = refl
 
--- one label more
+-- once one label more was looked at, it says whether it is the asterisk, unless labels are left
 pub said_next : (last : Bool) (label : List ℕ) (labels : Labels) → said_by last (label ∷ labels) ≡ said_by (label_eq label (codes "*")) labels
 said_next last label [] = refl
 said_next last label (next ∷ labels) = refl

@@ -42,7 +42,7 @@ module _ (rdata : Rdata) (text : List ℕ) (is : text ≡ data_text rdata) where
   abbrev is_text : List ℕ → Bool
   is_text = is_at (slice_cmp nat_cmp text)
 
-  -- where no key is the text, the data get their place
+  -- if no key is the text of the data, the entry put into the table gives the data their place in order
   pub put_absent : (es : List Entry) → AllByRecursion IsKeyed es → lookup is_text es ≡ None
       → map data_at_entry (insert_entry (slice_cmp nat_cmp) es text rdata) ≡ put_in_order data_cmp rdata (map data_at_entry es)
   put_absent [] keyed none = refl
@@ -60,7 +60,7 @@ module _ (rdata : Rdata) (text : List ℕ) (is : text ≡ data_text rdata) where
         some_is_none h = cc
       by Greater is rest = ap (λ (xs : List Rdata). e.1 ∷ xs) (rest (sym (lookup_tail is_text e es (ap is_eq is)) ∙ none))
 
-  -- where one is, nothing changes
+  -- if a key is the text of the data, putting them in order changes nothing
   pub put_present : (es : List Entry) → AllByRecursion IsKeyed es → IsStrictlySortedBy (slice_cmp nat_cmp) (keys_of es)
       → (found : Rdata) → lookup is_text es ≡ Some found
       → map data_at_entry es ≡ put_in_order data_cmp rdata (map data_at_entry es)
@@ -80,7 +80,7 @@ module _ (rdata : Rdata) (text : List ℕ) (is : text ≡ data_text rdata) where
       by Equal is rest = refl
       by Greater is rest = ap (λ (xs : List Rdata). e.1 ∷ xs) (rest (sym (lookup_tail is_text e es (ap is_eq is)) ∙ some))
 
-  -- and each key stays its data's text
+  -- each key stays the text of its data when an entry is put into the table
   pub keyed_put : (es : List Entry) → AllByRecursion IsKeyed es → AllByRecursion IsKeyed (insert_entry (slice_cmp nat_cmp) es text rdata)
   keyed_put [] keyed = (is, tt)
   keyed_put (e ∷ es) keyed = by (slice_cmp nat_cmp text e.0) refl (keyed_put es keyed.1) where

@@ -22,11 +22,11 @@ pub encloses : (zone : Zone) (above : Labels) (label : List ℕ) (rest : Labels)
 encloses zone above label rest inside absent exists =
     closest_encloser_above zone above label rest inside absent ∙ longest_itself (exists_in zone) above exists
 
--- one label more of a name
+-- a front of a name with one label more is the front with the name's next label
 pub one_label_more : (name : Labels) (k : ℕ) → k < length name → take (k + 1) name ≡ take k name ++ get_or name k [] ∷ []
 one_label_more name k below = take_more name k [] below
 
--- a name in two, at a label
+-- a name is a front, the label behind it, and the labels behind that
 pub at_label : (name : Labels) (k : ℕ) → k < length name → take k name ++ get_or name k [] ∷ drop (k + 1) name ≡ name
 at_label name k below =
     ap (λ (xs : Labels). take k name ++ xs) (sym (drop_more name k [] below)) ∙ take-append-drop k name
@@ -156,7 +156,7 @@ module _ (zone : Zone) (name : Labels) (inside : is_prefix zone.origin name ≡ 
       by_redirection zone name zone.origin begins.0 begins.1 uncut_apex
       (apex_alone ∙ ap (λ (b : Bool). cond b (Some zone.origin) None) (redirects_below zone name zone.origin (omega arith) below owner))
 
-  -- else nothing does so far
+  -- nothing decides at the origin, unless it owns a DNAME record and the name is below it
   pub apex_undecided : (length zone.origin < length name → owns zone zone.origin types.Dname ≡ false) → Undecided zone name zone.origin
   apex_undecided other = record {
     inside = begins_itself zone.origin;
@@ -189,7 +189,7 @@ module _ (zone : Zone) (above : Labels) (label : List ℕ) (rest : Labels) (so_f
   uncut_next uncut =
       cut_next ∙ ap (λ (b : Bool). cond b (Some next) None) (and_right (nat_lt (length zone.origin) (length next)) (owns zone next types.Ns) uncut)
 
-  -- the next front decides, if it is a zone cut
+  -- the next front of the name decides, if it is a zone cut
   pub cut_decides : owns zone next types.Ns ≡ true → deciding zone name ≡ ByCut next
   cut_decides owner =
       let behind : length zone.origin < length next = omega (arith, as_long zone above so_far.inside, long) in
@@ -200,14 +200,14 @@ module _ (zone : Zone) (above : Labels) (label : List ℕ) (rest : Labels) (so_f
       (subst (λ (x : Labels). shortest (is_cut zone) x ≡ Some next) whole (found_above (is_cut zone) next rest next first))
       so_far.no_redirection (omega (arith, long))
 
-  -- or redirects the name
+  -- the next front of the name decides, if it is no zone cut and owns a DNAME record that redirects the name
   pub redirection_decides : length next < length name → owns zone next types.Ns ≡ false → owns zone next types.Dname ≡ true → deciding zone name ≡ by_dname zone next
   redirection_decides below uncut owner =
       by_redirection zone name next rest whole (uncut_next uncut)
       (redirection_next ∙ ap (λ (b : Bool). cond b (Some next) None)
       (redirects_below zone name next (omega (arith, as_long zone above so_far.inside, long)) below owner))
 
-  -- or it goes on
+  -- if the next front of the name exists and neither cuts nor redirects, nothing has decided up to it
   pub goes_on : exists_in zone next ≡ true → owns zone next types.Ns ≡ false → (length next < length name → owns zone next types.Dname ≡ false) → Undecided zone name next
   goes_on exists uncut other = record {
     inside = is_prefix_told zone.origin next (begins_along zone.origin above next (is_prefix_tells zone.origin above so_far.inside) (label ∷ [], refl));
@@ -216,7 +216,7 @@ module _ (zone : Zone) (above : Labels) (label : List ℕ) (rest : Labels) (so_f
     no_redirection = redirection_next ∙ ap (λ (b : Bool). cond b (Some next) None) (redirects_none zone name next other);
   }
 
-  -- where it doesn't exist the source of synthesis decides
+  -- if the next front of the name doesn't exist, the source of synthesis below the front so far decides
   pub source_decides : exists_in zone next ≡ false → deciding zone name ≡ synthesized zone (Some above)
   source_decides absent =
       ap (λ (c : Option Labels). decided zone name (shorter_decides zone c (dname_owner zone name)))
@@ -226,7 +226,7 @@ module _ (zone : Zone) (above : Labels) (label : List ℕ) (rest : Labels) (so_f
       ∙ missing_decided zone above label rest so_far.inside absent None
       ∙ ap (synthesized zone) (longest_itself (exists_in zone) above so_far.exists)
 
--- at its end the name's own records decide
+-- if nothing has decided up to the name, its own records decide
 pub records_decide : (zone : Zone) (name : Labels) → Undecided zone name name → deciding zone name ≡ ByRecords name
 records_decide zone name so_far =
     ap (λ (c : Option Labels). decided zone name (shorter_decides zone c (dname_owner zone name))) so_far.no_cut

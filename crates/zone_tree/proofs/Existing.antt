@@ -25,7 +25,7 @@ begins_along a b c (x, e) (y, f) = (x ++ y, sym (append_assoc a x y) ∙ ap (λ 
 pub begins_up_to : (a b : Labels) → Begins a b → UpTo a b
 begins_up_to a b (x, e) = subst (UpTo a) e (prefix_up_to a x)
 
--- names that begin each other are one
+-- names that begin each other are equal
 pub begin_each_other : (a b : Labels) → Begins a b → Begins b a → a ≡ b
 begin_each_other a b there back = both_up_to a b (begins_up_to a b there) (begins_up_to b a back)
 
@@ -142,7 +142,7 @@ owner_exists zone rr has within =
     (and_from (is_prefix zone.origin rr.owner) (list_any (λ one. is_prefix rr.owner one.owner) zone.rrs) within
     (any_has (λ (one : Rr). is_prefix rr.owner one.owner) zone.rrs rr has (begins_itself rr.owner)))
 
--- so the owners of records in order are among the names
+-- the owner of each record at or below the origin is among the names that exist in the zone
 pub owners_among : (zone : Zone) (rrs : List Rr) (all : List Labels) → AreByOwner zone rrs → AreExisting zone all
     → (rr : Rr) → Contains rrs rr → Contains all rr.owner
 owners_among zone rrs all are there rr has =

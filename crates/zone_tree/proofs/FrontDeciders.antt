@@ -41,7 +41,7 @@ module _ (zone : Zone) (front tail : Labels) where
         let is : first ≡ found = decider_found zone (front ++ tail) found e in
         omega (arith, short, ap (λ (x : Labels). length x) is, found_beyond (decides_below zone) front none tail found e)
 
-    -- the first decider of a name that has no more labels than a front of it, and decides, is that of the front
+    -- the first decider of a name is that of a front of it that has at least its labels, if it decides
     pub decides_at_front : shortest (decides_below zone) front ≡ Some first
     decides_at_front = by (shortest (decides_below zone) front) refl where
       by : (o : Option Labels) → shortest (decides_below zone) front ≡ o → o ≡ Some first
@@ -49,7 +49,8 @@ module _ (zone : Zone) (front tail : Labels) where
       by (Some found) e =
           ap (λ (x : Labels). Some x) (sym (decider_found zone (front ++ tail) found (found_above (decides_below zone) front tail found e)))
 
-  -- and else the front has none
+  -- if the first decider of a name has more labels than a front of it, or doesn't decide, no prefix of the front
+  -- decides
   pub none_at_front : (length first ≤ length front → decides_below zone first ≡ true → ⊥) → shortest (decides_below zone) front ≡ None
   none_at_front never = by (shortest (decides_below zone) front) refl where
     by : (o : Option Labels) → shortest (decides_below zone) front ≡ o → o ≡ None
@@ -103,7 +104,7 @@ module _ (zone : Zone) (name : Labels) (inside : is_prefix zone.origin name ≡ 
     many : length front ≡ k
     many = length-take-le k name short
 
-    -- where it has more labels than the front
+    -- if the first decider has more labels than the front, nothing decides up to the front
     pub too_long : k < length first → Undecided zone name front
     too_long longer =
         undecided_at k long exists (none_at_front zone front (drop k other)
@@ -151,7 +152,7 @@ module _ (zone : Zone) (name : Labels) (inside : is_prefix zone.origin name ≡ 
           pub above_short : j < length name
           above_short = omega (arith, below, few, short)
 
-      -- where it is a zone cut
+      -- the first name that decides decides as a zone cut, if it is one
       pub cut : is_cut zone first ≡ true → deciding zone name ≡ ByCut first
       cut cuts =
           let parts = and_parts (nat_lt (length zone.origin) (length first)) (owns zone first types.Ns) cuts in
@@ -166,7 +167,7 @@ module _ (zone : Zone) (name : Labels) (inside : is_prefix zone.origin name ≡ 
           (up_to (length zone.origin) (length first) (as_long zone first within)) owner)
 
       module _ (uncut : is_cut zone first ≡ false) where
-        -- where it redirects the name
+        -- the first name that decides redirects the name, if it is no zone cut and has fewer labels
         pub redirection : length first < length name → owns zone first types.Dname ≡ true → deciding zone name ≡ by_dname zone first
         redirection less owner = elim (cases_lt (length zone.origin) (length first)) [
           | inl below ↦ redirection_at zone name (length first - 1) (above_short (decides_by owner) below) (above_undecided (decides_by owner) below) first

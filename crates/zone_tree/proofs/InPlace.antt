@@ -19,7 +19,7 @@ module _ {A : Type 0} (cmp : A → A → Ordering) (item : A) (items : List A) w
       ap (put_in_order cmp item) (drop_more items place d within)
       ∙ ap (beside item (get_or items place d) (drop (place + 1) items) (put_in_order cmp item (drop (place + 1) items))) is
 
-  -- an item behind which it stands, too
+  -- an item that stands behind the items before a place and behind the one there stands behind all up to it
   pub behind_more : (place : ℕ) (d : A) → place < length items → cmp item (get_or items place d) ≡ Greater
       → StandsBehind cmp item items place → StandsBehind cmp item items (place + 1)
   behind_more place d within is behind =
@@ -28,7 +28,7 @@ module _ {A : Type 0} (cmp : A → A → Ordering) (item : A) (items : List A) w
       ∙ sym (append_assoc (take place items) (get_or items place d ∷ []) (put_in_order cmp item (drop (place + 1) items)))
       ∙ ap (λ (xs : List A). xs ++ put_in_order cmp item (drop (place + 1) items)) (sym (take_more items place d within))
 
-  -- it goes before the first item behind which it doesn't stand
+  -- an item that is put in order goes before the first item behind which it doesn't stand
   pub put_before : (place : ℕ) (d : A) → place < length items → cmp item (get_or items place d) ≡ Less
       → StandsBehind cmp item items place → put_in_order cmp item items ≡ insert items place item
   put_before place d within is behind =
@@ -36,7 +36,7 @@ module _ {A : Type 0} (cmp : A → A → Ordering) (item : A) (items : List A) w
       ∙ ap (λ (xs : List A). take place items ++ xs) (put_beside place d Less within is)
       ∙ ap (λ (xs : List A). take place items ++ item ∷ xs) (sym (drop_more items place d within))
 
-  -- unless it ties with that one
+  -- an item that is put in order goes nowhere if it ties with the first item behind which it doesn't stand
   pub put_nowhere : (place : ℕ) (d : A) → place < length items → cmp item (get_or items place d) ≡ Equal
       → StandsBehind cmp item items place → put_in_order cmp item items ≡ items
   put_nowhere place d within is behind =
@@ -54,7 +54,8 @@ name_at [] place name within is = absurd (omega arith)
 name_at (first ∷ names) zero name within is = ap now_of (sym is)
 name_at (first ∷ names) (suc place) name within is = name_at names place name (omega arith) is
 
--- a name that is put at a place
+-- the names behind references, with one inserted at a place, are the names with the one behind its reference inserted
+-- there
 pub now_inserted : (names : List (Bor Labels)) (place : ℕ) (name : Bor Labels) → map now_of (insert names place name) ≡ insert (map now_of names) place name.now
 now_inserted names zero name = refl
 now_inserted [] (suc place) name = refl

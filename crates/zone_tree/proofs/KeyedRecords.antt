@@ -24,7 +24,7 @@ use Rattle.zone_tree.proofs.Owned.{rdata_of, tied_names}
 abbrev pub record_of : KeyedRecord → Rr
 record_of one = one.rr.now
 
--- its owner
+-- the owner of the record behind a reference
 abbrev pub owner_at : KeyedRecord → Labels
 owner_at one = one.rr.now.owner
 
@@ -34,7 +34,7 @@ key_at one = one.key
 
 -- ---- the order of keyed records
 
--- it is total
+-- the order of keyed records is total
 pub keyed_total : IsTotalOrder keyed_cmp
 keyed_total = then_total (on_total key_at nat_cmp_total) (on_total owner_at names_total)
 
@@ -117,7 +117,7 @@ module _ (origin : Labels) (old new : List KeyedRecord) (keyed : All (HasKey ori
 
 -- ---- records that are kept
 
--- one more is kept
+-- a next record that passes the test is kept behind those kept so far
 pub kept_more : (test : Rr → Bool) (done items : List Rr) (i : ℕ) (rr : Rr) → i < length items → rr ≡ get_or items i rr
     → done ++ filter test (drop i items) ≡ filter test items → test rr ≡ true
     → (done ++ rr ∷ []) ++ filter test (drop (i + 1) items) ≡ filter test items
@@ -128,7 +128,7 @@ kept_more test done items i rr within is before passes =
     ∙ ap (λ (b : Bool). cond b (rr ∷ filter test (drop (i + 1) items)) (filter test (drop (i + 1) items))) passes))
     ∙ before
 
--- one is left out
+-- a next record that fails the test is left out
 pub kept_same : (test : Rr → Bool) (done items : List Rr) (i : ℕ) (rr : Rr) → i < length items → rr ≡ get_or items i rr
     → done ++ filter test (drop i items) ≡ filter test items → test rr ≡ false
     → done ++ filter test (drop (i + 1) items) ≡ filter test items

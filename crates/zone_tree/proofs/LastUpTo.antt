@@ -80,7 +80,7 @@ module _ (names : List Labels) (name : Labels) (ordered : AreInOrder names) wher
 
 -- ---- the prefixes of a name that begin the last name up to it
 
--- a front of a name begins it
+-- so many labels at the front of a name begin it
 pub front_begins : (name : Labels) (k : ℕ) → Begins (take k name) name
 front_begins name k = (drop k name, take-append-drop k name)
 
@@ -165,7 +165,7 @@ module _ (zone : Zone) (names : List Labels) (name : Labels) (place : ℕ) (exis
     itself = λ all. ap (λ (n : ℕ). get_or names n []) here ∙ itself (sym many ∙ all);
   }
 
--- the labels that it shares with the name are those of the closest encloser
+-- the labels that the found node's name shares with the name are those of the closest encloser
 pub encloser_is : (tree : ZoneTree) (name : Labels) (found : Preceding) → is_prefix tree.zone.origin name ≡ true → IsPreceding tree name found
     → closest_encloser tree.zone name ≡ Some (take found.shared name)
 encloser_is tree name found inside precedes = elim (cases_lt found.shared (length name)) [

@@ -77,12 +77,12 @@ module _ {A : Type 0} (cmp : A → A → Ordering) (total : IsTotalOrder cmp) wh
     by Equal is rest = put_tied x y (put_each cmp xs items) is
     by Greater is rest = put_both x y (put_each cmp xs items) is ∙ ap (put_in_order cmp y) rest
 
-  -- so items may be put in order first
+  -- putting items into a list one after another is putting them in order first, and then into the list
   pub put_ordered : (xs items : List A) → put_each cmp xs items ≡ put_each cmp (in_order cmp xs) items
   put_ordered [] items = refl
   put_ordered (x ∷ xs) items = ap (put_in_order cmp x) (put_ordered xs items) ∙ put_among x (in_order cmp xs) items
 
-  -- and two lists in order are put in order as one
+  -- two lists in a row are put in order by putting each in order and the one into the other
   pub in_order_both : (xs ys : List A) → in_order cmp (xs ++ ys) ≡ put_each cmp (in_order cmp xs) (put_each cmp (in_order cmp ys) [])
   in_order_both xs ys = joined xs ∙ put_ordered xs (in_order cmp ys) ∙ ap (put_each cmp (in_order cmp xs)) (alone ys ∙ put_ordered ys []) where
     joined : (xs : List A) → in_order cmp (xs ++ ys) ≡ put_each cmp xs (in_order cmp ys)

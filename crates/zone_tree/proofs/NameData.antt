@@ -20,7 +20,7 @@ module _ (name : Labels) (rtype : RrType) where
     by true rest = ap (λ (b : Bool). has_type rtype rr.rdata || b) rest
     by false rest = rest
 
-  -- and the data of the type are those
+  -- the data of a name's records of a type are those of this type among the name's data
   pub data_of_type : (rrs : List Rr) → map (λ (rr : Rr). rr.rdata) (filter (is_of name rtype) rrs) ≡ filter (has_type rtype) (data_of rrs name)
   data_of_type [] = refl
   data_of_type (rr ∷ rrs) = by (name_eq rr.owner name) (has_type rtype rr.rdata) refl (data_of_type rrs) where

@@ -168,7 +168,7 @@ keys_tell above x y own other is also differ = by (nat_cmp own other) refl where
       sym (both ∙ names_total.antisymm is.below also.below
       ∙ ap ordering_reverse (key_before also.below is.below other own also.is_key is.is_key (ranked own other Greater e)))
 
--- the key of a name's labels below those of a name above it
+-- the key of the labels of a name behind so many is its key below the name of these first labels
 pub key_of_begun : (above name : Labels) (count key : ℕ) → count ≡ length above → is_prefix above name ≡ true → IsKey (drop count name) key → IsKeyBelow above name key
 key_of_begun above name count key many inside is =
     let begins : Begins above name = is_prefix_tells above name inside in
@@ -176,7 +176,7 @@ key_of_begun above name count key many inside is =
     ap (λ (n : ℕ). drop n name) many ∙ ap (drop (length above)) (sym begins.1) ∙ drop-append_seam above begins.0 in
     record { below = begins.0; is = begins.1; is_key = subst (λ (xs : Labels). IsKey xs key) rest is }
 
--- a name that has all labels of another in common with it stands at or below it
+-- a name that has all labels of another in common with it is at or below it
 pub common_inside : (name above : Labels) → length above ≤ common_prefix_len label_eq name above → is_prefix above name ≡ true
 common_inside name above all =
     is_prefix_told above name (
@@ -186,13 +186,13 @@ common_inside name above all =
           ∙ take-append-drop (length above) name,
     )
 
--- one that has fewer doesn't
+-- a name that has not all labels of another in common with it is neither at nor below it
 pub fewer_outside : (name above : Labels) → common_prefix_len label_eq name above < length above → is_prefix above name ≡ false
 fewer_outside name above fewer =
     false_from_ne_true (is_prefix above name) (λ inside.
     omega (arith, fewer, both_begin above name above (is_prefix_tells above name inside) (is_prefix_tells above above (begins_itself above))))
 
--- a name with a key below another does
+-- a name with a key below another is at or below it
 pub key_inside : (above name : Labels) (key : ℕ) → IsKeyBelow above name key → is_prefix above name ≡ true
 key_inside above name key is = is_prefix_told above name (is.below, is.is)
 

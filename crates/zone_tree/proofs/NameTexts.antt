@@ -15,7 +15,7 @@ plain_first place label within plain =
       ap label_text (drop_more label place 0 within) ∙ ap (λ (text : List ℕ). (text ++ flat_map octet_text others) ++ 46 ∷ []) plain,
     )
 
--- the label behind those of a front is the last so far
+-- the next label of what is left of a name is the last of the front then
 pub more_last : (last : Option (Bor (List ℕ))) (name rest left : Labels) (label : List ℕ)
     → MatchOption last (rest ≡ name) (λ above. (front : Labels) × (name ≡ front ++ above.now ∷ rest))
     → rest ≡ label ∷ left → (front : Labels) × (name ≡ front ++ label ∷ left)

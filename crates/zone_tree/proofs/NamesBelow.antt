@@ -26,11 +26,11 @@ module _ (zone : Zone) (name : Labels) (open_below : Bool) (below : Labels) (sta
   tested : test ≡ nat_lt count (length (name ++ below))
   tested = is ∙ ap (λ (n : ℕ). open_below || nat_lt count n) many ∙ same_test zone name open_below below count stands short
 
-  -- where the test passes, so many labels are fewer than those of the name with the others
+  -- if the test for a proper front passes, so many labels are fewer than those of the name with the others
   pub proper : test ≡ true → count < length (name ++ below)
   proper e = ltb-true count (length (name ++ below)) (sym tested ∙ e)
 
-  -- where the test doesn't pass, so many labels are no fewer than those of the name with the others
+  -- if the test for a proper front fails, so many labels are no fewer than those of the name with the others
   pub improper : test ≡ false → length (name ++ below) ≤ count
   improper e = ltb-false count (length (name ++ below)) (sym tested ∙ e)
 
@@ -38,7 +38,7 @@ module _ (zone : Zone) (name : Labels) (open_below : Bool) (below : Labels) (sta
 pub front_below : (name below : Labels) (k : ℕ) → k ≤ length name → take k name ≡ take k (name ++ below)
 front_below name below k short = sym (take-append-le k name below short)
 
--- which is at or below the origin
+-- a name with labels below it is at or below an origin if the name is
 pub inside_below : (origin name below : Labels) → is_prefix origin name ≡ true → is_prefix origin (name ++ below) ≡ true
 inside_below origin name below inside =
     is_prefix_told origin (name ++ below) (prefix_of_prefix origin name (name ++ below) (is_prefix_tells origin name inside) (below, refl))

@@ -44,7 +44,7 @@ module _ (zone : Zone) (names : List Labels) (existing : AreExisting zone names)
   pub inside_at : (k : ℕ) → k < length names → is_prefix zone.origin (get_or names k []) ≡ true
   inside_at k below = existing_within zone (get_or names k []) (exists_at k below)
 
-  -- the first decider of the first
+  -- the first name of a zone is the first decider of itself
   pub at_first : IsFirstDecider zone names (get_or names 0 []) 0
   at_first = record {
     within = existing.some;
@@ -149,7 +149,7 @@ module _ (zone : Zone) (names : List Labels) (existing : AreExisting zone names)
     abbrev test : Bool
     test = nat_lt (length above) (length name) && decides_below zone above
 
-    -- where that of the name before has fewer labels, and decides
+    -- the first decider of the name before is that of the name, if it has fewer labels than the name and decides
     pub as_before : test ≡ true → IsFirstDecider zone names name before
     as_before told =
         let parts = and_parts (nat_lt (length above) (length name)) (decides_below zone above) told in
@@ -167,7 +167,7 @@ module _ (zone : Zone) (names : List Labels) (existing : AreExisting zone names)
       other less decides =
           true≢false (sym (and_from (nat_lt (length above) (length name)) (decides_below zone above) (lt-ltb (length above) (length name) less) decides) ∙ told)
 
-      -- else the name itself, where it decides
+      -- the name is its own first decider, if it decides and the first decider of the name before isn't its own
       pub as_itself : decides_below zone name ≡ true → IsFirstDecider zone names name place
       as_itself decides = record {
         within = within;
@@ -177,7 +177,8 @@ module _ (zone : Zone) (names : List Labels) (existing : AreExisting zone names)
         ];
       }
 
-      -- or the origin
+      -- the origin is the name's first decider, if neither the first decider of the name before nor the name itself
+      -- decides at it
       pub as_origin : decides_below zone name ≡ false → IsFirstDecider zone names name 0
       as_origin decides = record {
         within = existing.some;

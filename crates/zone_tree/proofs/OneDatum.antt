@@ -31,7 +31,7 @@ alone all later rdata same none = record {
   each = λ rtype. same.each rtype ∙ ap (λ (xs : List Rdata). cond (has_type rtype rdata) (rdata ∷ xs) xs) (none.each rtype);
 }
 
--- where there are no data of the twelve types, nothing tells of them
+-- if a name has no data of the twelve types, nothing tells of its data
 pub nothing_told : (all : List Rdata) → HaveSameData all [] → TellsData all (written_out Nothing)
 nothing_told all same =
     let none : (rtype : RrType) → list_any (has_type rtype) all ≡ false = λ rtype. same_any (has_type rtype) all [] (same.each rtype) in

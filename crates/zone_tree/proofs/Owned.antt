@@ -53,7 +53,7 @@ module _ (name : Labels) where
     by true rest = omega arith
     by false rest = omega arith
 
-  -- the records of a name among those from it on are those at the front
+  -- the records of a name are the first records, if the list stands in order from that name on
   pub data_leading : (rrs : List Rr) → InOrder name (map owner_of rrs) → data_of rrs name ≡ map rdata_of (take (leading name rrs) rrs)
   data_leading [] order = by (leading name []) where
     by : (n : ℕ) → [] ≡ map rdata_of (take n [])
@@ -68,7 +68,7 @@ module _ (name : Labels) where
         ap (λ (xs : List Rdata). rr.rdata ∷ xs) (rest (subst (λ (x : Labels). InOrder x (map owner_of rrs)) same order.1))
     by false e rest = none_owned name rr.owner rrs (up_to_other name rr.owner order.0 e) order.1
 
-  -- those of another name are behind them
+  -- the records of another name are behind the first records of a name
   pub data_behind : (rrs : List Rr) (other : Labels) → name_eq name other ≡ false → data_of (drop (leading name rrs) rrs) other ≡ data_of rrs other
   data_behind [] other differs = by (leading name []) where
     by : (n : ℕ) → data_of (drop n []) other ≡ []
@@ -83,7 +83,8 @@ module _ (name : Labels) where
         (ap (λ (x : Labels). name_eq x other) (sym same) ∙ differs))
     by false e rest = refl
 
-  -- which stand in order from a later name on, if each of them that stands behind the name does from that name on
+  -- the records behind those of a name stand in order from a later name on, if each owner behind the name stands up to
+  -- it
   pub order_behind : (rrs : List Rr) (next : Labels) → InOrder name (map owner_of rrs)
       → ((rr : Rr) → Contains rrs rr → Before name rr.owner → UpTo next rr.owner) → InOrder next (map owner_of (drop (leading name rrs) rrs))
   order_behind [] next order later = by (leading name []) where
@@ -147,7 +148,7 @@ module _ (names : List Labels) (ordered : AreInOrder names) where
         ]
       ]
 
-  -- so it doesn't stand before the next name
+  -- a name of the list that stands behind one doesn't stand before the next one
   pub next_up_to : (i : ℕ) (name : Labels) → i < length names → Contains names name → Before (get_or names i []) name → UpTo (get_or names (i + 1) []) name
   next_up_to i name within has before =
       let there = place_of name has in
@@ -172,7 +173,7 @@ module _ (names : List Labels) (ordered : AreInOrder names) where
 
 -- ---- what a sort by owners keeps
 
--- names of which neither stands before the other are one
+-- names of which neither stands before the other are equal, as a sort by owners compares them
 pub tied_names : (a b : Labels) → (not (is_lt (name_cmp a b)) && not (is_lt (name_cmp b a))) ≡ name_eq b a
 tied_names a b = by (name_cmp a b) refl where
   by : (o : Ordering) → name_cmp a b ≡ o → (not (is_lt (name_cmp a b)) && not (is_lt (name_cmp b a))) ≡ name_eq b a

@@ -3,7 +3,7 @@ use Rattle.std.proofs.Common.{◌≡◌, ◌≢◌, ℕ, ◌+◌, ◌-◌, ◌<�
 use Rattle.std.proofs.lemmas.Bool.{cases_eq}
 use Rattle.std.proofs.lemmas.List.{get_or_append_left, get_or-append_right}
 
--- one more
+-- what holds of each item of a list at its place, and of one put behind it, holds of each item then
 pub each_pushed : {Y : Type 0} (P : ℕ → Y → Type 0) (ys : List Y) (i : ℕ) (y : Y) → length ys ≡ i
     → ((k : ℕ) (d : Y) → k < i → P k (get_or ys k d)) → P i y → (k : ℕ) (d : Y) → k < i + 1 → P k (get_or (ys ++ y ∷ []) k d)
 each_pushed P ys i y many each here k d within =

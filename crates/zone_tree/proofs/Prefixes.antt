@@ -62,11 +62,11 @@ module _ (test : Labels → Bool) where
         ∙ find-append test (prefixes above) (map (λ (below : Labels). above ++ below) (longer tail))
         ∙ ap (λ (found : Option Labels). option_or found (find test (map (λ (below : Labels). above ++ below) (longer tail)))) none
 
-    -- one label further
+    -- if no prefix of a name passes, the shortest that does with one label more is the name with it, if that passes
     pub shortest_next : (label : List ℕ) → shortest test (above ++ label ∷ []) ≡ cond (test (above ++ label ∷ [])) (Some (above ++ label ∷ [])) None
     shortest_next label = below_found (label ∷ [])
 
-    -- it has more labels
+    -- the shortest passing prefix of a name has more labels than a front of which no prefix passes
     pub found_beyond : (tail found : Labels) → shortest test (above ++ tail) ≡ Some found → length above < length found
     found_beyond [] found is = some_is_none (sym is ∙ below_found []) where
       some_is_none : Some found ≡ None → length above < length found
@@ -79,14 +79,14 @@ module _ (test : Labels → Bool) where
         ap (λ (x : Labels). length x) (sym one.2) ∙ ap (λ (x : Labels). length (above ++ x)) (sym two.2) ∙ length-append above (label ∷ two.0) in
         omega arith
 
-  -- what is found stays the first below the name
+  -- the shortest passing prefix of a front is that of the name
   pub found_above : (above tail found : Labels) → shortest test above ≡ Some found → shortest test (above ++ tail) ≡ Some found
   found_above above tail found is =
       ap (find test) (prefixes_below above tail)
       ∙ find-append test (prefixes above) (map (λ (below : Labels). above ++ below) (longer tail))
       ∙ ap (λ (first : Option Labels). option_or first (find test (map (λ (below : Labels). above ++ below) (longer tail)))) is
 
-  -- what is found is a prefix that passes
+  -- the shortest prefix that passes a test begins the name
   pub found_begins : (name found : Labels) → shortest test name ≡ Some found → Begins found name
   found_begins name found is = from_prefixes name found (found_there test (prefixes name) found is).0
 
@@ -94,7 +94,7 @@ module _ (test : Labels → Bool) where
   pub found_passes : (name found : Labels) → shortest test name ≡ Some found → test found ≡ true
   found_passes name found is = (found_there test (prefixes name) found is).1
 
-  -- and no front with fewer labels has one
+  -- no prefix of a front passes, if the front has fewer labels than the shortest passing prefix of the name
   pub none_shorter : (above tail found : Labels) → shortest test (above ++ tail) ≡ Some found → length above < length found → shortest test above ≡ None
   none_shorter above tail found is shorter = by (shortest test above) refl where
     by : (o : Option Labels) → shortest test above ≡ o → o ≡ None
@@ -103,13 +103,13 @@ module _ (test : Labels → Bool) where
         let same : other ≡ found = some_of (sym (found_above above tail other e) ∙ is) in
         absurd (omega (arith, shorter, ap (λ (x : Labels). length x) same, begins_short other above (found_begins above other e)))
 
-  -- where none does, no prefix passes
+  -- if no shortest passing prefix of a name is found, none of its prefixes passes
   pub none_passes : (name above : Labels) → shortest test name ≡ None → Begins above name → test above ≡ true → ⊥
   none_passes name above none begins passes =
       let found = find_some test (prefixes name) above (prefixes_have name above begins) passes in
       let clash : Some found.0 ≡ None = sym found.1 ∙ none in cc
 
--- nor one that passes a test which tells more
+-- if no prefix of a name passes a test, none passes a stronger one
 pub none_of_stronger : (test stronger : Labels → Bool) → ((x : Labels) → stronger x ≡ true → test x ≡ true) → (name : Labels)
     → shortest test name ≡ None → shortest stronger name ≡ None
 none_of_stronger test stronger each name none =

@@ -24,7 +24,7 @@ rises names ordered = λ k d low high.
 pub read_at : (names : List Labels) (place : ℕ) (name : Labels) → place < length names → name ≡ get_or names place name → name ≡ get_or names place []
 read_at names place name within is = is ∙ get_or_default names place name [] within
 
--- what a search finds
+-- a search among names in order finds the place of the name, or the name isn't among them
 pub found_at : (names : List Labels) (name : Labels) (r : Result ℕ ℕ) → AreInOrder names → IsSearchInRange r (length names)
     → IsBinarySearchResult (λ (other : Labels). name_cmp other name) names r
     → MatchResult r (λ place. (place < length names) × (get_or names place [] ≡ name)) (λ _. Contains names name → ⊥)
@@ -73,7 +73,7 @@ module _ (names : List Labels) (place : ℕ) (ordered : AreInOrder names) (withi
       let same : above ≡ name = ap (λ (n : ℕ). get_or names n []) (sym e) ∙ there in
       omega (arith, ap (λ (x : Labels). length x) (same ∙ below.is), length-append above (below.first ∷ below.rest))
 
-  -- a name below that at a place stands behind it
+  -- a name below the one at a place stands behind that place
   pub stands_behind : place < has.0
   stands_behind = elim (cases_lt place has.0) [
     | inl behind ↦ behind
@@ -83,7 +83,7 @@ module _ (names : List Labels) (place : ℕ) (ordered : AreInOrder names) (withi
     ]
   ]
 
-  -- so the next name doesn't stand behind it
+  -- a name below the one at a place doesn't stand before the next name
   pub next_up_to : UpTo (get_or names (place + 1) []) name
   next_up_to = elim (cases_lt (place + 1) has.0) [
     | inl lower ↦ ap is_gt (ap (name_cmp (get_or names (place + 1) [])) (sym there) ∙ ordered (place + 1) has.0 [] lower has.1)
@@ -94,14 +94,14 @@ module _ (names : List Labels) (place : ℕ) (ordered : AreInOrder names) (withi
         ∙ tied_itself names_total (get_or names (place + 1) [])))
   ]
 
-  -- and is below that at the place itself
+  -- if some name is below the one at a place, the next name is
   pub next_below : is_prefix above (get_or names (place + 1) []) ≡ true
   next_below =
       let next = get_or names (place + 1) [] in
       let low : UpTo above next = ap is_gt (ordered place (place + 1) [] (omega arith) (omega (arith, stands_behind, has.1))) in
       is_prefix_told above next (between above next (below.first ∷ below.rest) low (subst (UpTo next) below.is next_up_to))
 
--- where the next name isn't below the one at a place, or there is none, no name is
+-- no name is below the one at a place, if the next name isn't or there is none
 pub none_below : (names : List Labels) (place : ℕ) → AreInOrder names → place < length names
     → (place + 1 < length names → is_prefix (get_or names place []) (get_or names (place + 1) []) ≡ false)
     → (name : Labels) → IsStrictlyBelow name (get_or names place []) → Contains names name → ⊥
@@ -118,7 +118,7 @@ none_between names place ordered within name below greater has =
 -- ---- names on both sides of one
 
 module _ (names : List Labels) (name : Labels) (middle : ℕ) (ordered : AreInOrder names) (within : middle < length names) where
-  -- where one stands before a name, so do those before it
+  -- if the name at a place stands before a name, so do all names before that place
   pub all_before : name_cmp (get_or names middle []) name ≡ Less → AllWithin (λ other. name_cmp other name ≡ Less) names 0 (middle + 1)
   all_before less k d low high = elim (cases_lt k middle) [
     | inl lower ↦ (
@@ -130,7 +130,7 @@ module _ (names : List Labels) (name : Labels) (middle : ℕ) (ordered : AreInOr
         ap (λ (x : Labels). name_cmp x name) (sym (get_or_default names k [] d (omega (arith, same, within))) ∙ ap (λ (n : ℕ). get_or names n []) (sym same)) ∙ less)
   ]
 
-  -- where one stands behind a name, so do those behind it
+  -- if the name at a place stands behind a name, so do all names behind that place
   pub all_behind : name_cmp (get_or names middle []) name ≡ Greater → AllWithin (λ other. name_cmp other name ≡ Greater) names middle (length names)
   all_behind greater k d low high = elim (cases_lt middle k) [
     | inl higher ↦ (

@@ -49,7 +49,7 @@ new_between before name above le has =
       subst (UpTo above) e (prefix_up_to above below),
     )
 
--- the names stand in order, the first not before this one
+-- the names stand in order, and the first doesn't stand before the given one
 abbrev pub InOrder : Labels → List Labels → Type 0
 InOrder before [] = Unit {0}
 InOrder before (name ∷ names) = UpTo before name × InOrder name names
@@ -63,7 +63,7 @@ tree_stands_after before (name ∷ names) above order has =
       | inr later ↦ up_to_before before name above order.0 (tree_stands_after name names above order.1 later)
     ]
 
--- and in order
+-- the names of the tree behind a name rise
 pub rising_after : (before : Labels) (names : List Labels) → InOrder before names → Rising (tree_after before names)
 rising_after before [] order = tt
 rising_after before (name ∷ names) order =
@@ -72,7 +72,7 @@ rising_after before (name ∷ names) order =
     (rising_after name names order.1)
     (λ x y here there. up_to_before x name y (new_between before name x order.0 here).1 (tree_stands_after name names y order.1 there))
 
--- it has each prefix of each name, but for those that begin the name before
+-- the tree behind a name has each prefix of each of the names, but for those that begin that name
 pub tree_after_has : (before : Labels) (names : List Labels) (name above : Labels) → Contains names name → Begins above name → Begins above before ⊎ Contains (tree_after before names) above
 tree_after_has before [] name above has begins = absurd (none_in_nil name has)
 tree_after_has before (first ∷ names) name above has begins =
@@ -92,7 +92,7 @@ tree_after_has before (first ∷ names) name above has begins =
     at_later (inl begins) = at_first begins
     at_later (inr has) = inr (Contains-append_right (new_prefixes before first) (tree_after first names) above has)
 
--- each of its names begins one of the names
+-- each name of the tree behind a name begins one of the names
 pub from_tree_after : (before : Labels) (names : List Labels) (above : Labels) → Contains (tree_after before names) above → (name : Labels) × Contains names name × Begins above name
 from_tree_after before [] above has = absurd (none_in_nil above has)
 from_tree_after before (first ∷ names) above has =
@@ -101,7 +101,7 @@ from_tree_after before (first ∷ names) above has =
       | inr later ↦ (let found = from_tree_after first names above later in (found.0, has_later first names found.0 found.1, found.2))
     ]
 
--- names that don't stand behind each other are one
+-- names of which neither stands behind the other are equal
 pub both_up_to : (a b : Labels) → UpTo a b → UpTo b a → a ≡ b
 both_up_to a b le back = by (name_cmp a b) refl le where
   by : (o : Ordering) → name_cmp a b ≡ o → is_gt o ≡ false → a ≡ b
@@ -133,7 +133,7 @@ in_order origin (first ∷ names) sorted below =
     let begins = below first (has_first first names) in
     (subst (UpTo origin) begins.1 (prefix_up_to origin begins.0), in_order_after first names sorted)
 
--- names behind references, in order
+-- items that are sorted by their names have names that are sorted
 pub sorted_names : {X : Type 0} (f : X → Labels) (xs : List X) → IsSorted (λ x y. name_cmp (f x) (f y)) xs → IsSorted name_cmp (map f xs)
 sorted_names f [] sorted = λ k d low high. absurd (omega arith)
 sorted_names f (x ∷ xs) sorted = λ k d low high.

@@ -41,7 +41,7 @@ has_number Srv = refl
 has_number Dname = refl
 has_number Caa = refl
 
--- types with one number are one
+-- types that the test finds equal are the same
 pub one_type : (a b : RrType) → type_eq a b ≡ true → a ≡ b
 one_type a b same =
     let e : Some a ≡ Some b = sym (has_number a) ∙ ap of_number (eqb-true (number_of a) (number_of b) same) ∙ has_number b in
@@ -64,7 +64,7 @@ among_types Caa = refl
 
 -- ---- the sets of types among all data
 
--- where no data are of a type, none is
+-- if a filter finds no data of a type, none of the data is of the type
 pub none_of : (rtype : RrType) (all : List Rdata) → filter (has_type rtype) all ≡ [] → list_any (has_type rtype) all ≡ false
 none_of rtype [] none = refl
 none_of rtype (rdata ∷ all) none = by (has_type rtype rdata) none (none_of rtype all) where
@@ -94,7 +94,7 @@ module _ (all : List Rdata) where
         ∙ sym (ap (in_order data_cmp) begins);
   }
 
-  -- and one whose first data are alone
+  -- a set whose first data are alone of their type is the type's set, if it keeps no others
   pub set_of_one : (set : Set) → filter (has_type set.rtype) all ≡ set.first.now ∷ [] → set.several ≡ [] → IsRecordSetOf all set
   set_of_one set begins several = record {
     first = ap first_of begins;
@@ -108,7 +108,7 @@ module _ (all : List Rdata) where
     every = λ rtype some. or_left (list_any (λ other. type_eq other rtype) types) false (among_types rtype);
   }
 
-  -- a type without data adds none
+  -- a type without data adds no set
   pub skip_type : (rtype : RrType) (left : List RrType) (sets : List Set) → list_any (has_type rtype) all ≡ false
       → AreRecordSets all (rtype ∷ left) sets → AreRecordSets all left sets
   skip_type rtype left sets none are = record {
@@ -122,7 +122,7 @@ module _ (all : List Rdata) where
       by other true e some was = absurd (true≢false (sym some ∙ ap (λ (t : RrType). list_any (has_type t) all) (sym (one_type rtype other e)) ∙ none))
       by other false e some was = was
 
-  -- and one with data its set
+  -- a type with data adds its set
   pub add_type : (rtype : RrType) (left : List RrType) (sets : List Set) (set : Set) → set.rtype ≡ rtype → IsRecordSetOf all set
       → AreRecordSets all (rtype ∷ left) sets → AreRecordSets all left (sets ++ set ∷ [])
   add_type rtype left sets set is own are = record {
@@ -166,7 +166,7 @@ module _ (all : List Rdata) where
   lacks (set ∷ sets) rtype none =
       let parts = or_parts (type_eq set.rtype rtype) (list_any (λ one. type_eq one.rtype rtype) sets) none in rw (parts.0) (lacks sets rtype parts.1)
 
-  -- so the sets of all types tell each type's data
+  -- the sets of all types tell each type's data, in order, and the first of them
   pub sets_tell : (sets : List Set) → AreRecordSets all [] sets → (rtype : RrType)
       → (data_in sets rtype ≡ in_order data_cmp (filter (has_type rtype) all)) × (first_in sets rtype ≡ first_of (filter (has_type rtype) all))
   sets_tell sets are rtype = by (list_any (λ set. type_eq set.rtype rtype) sets) refl (list_any (has_type rtype) all) refl where

@@ -16,7 +16,8 @@ is_cut zone above = nat_lt (length zone.origin) (length above) && owns zone abov
 abbrev pub decides_below : Zone → Labels → Bool
 decides_below zone above = is_cut zone above || (nat_le (length zone.origin) (length above) && owns zone above types.Dname)
 
--- the first from the origin down to the name that does, or the origin where none does
+-- the shortest prefix of the name from the origin down that is a zone cut or a DNAME owner, or the origin if there is
+-- none
 abbrev pub first_decider : Zone → Labels → Labels
 first_decider zone name = unwrap_or (shortest (decides_below zone) name) zone.origin
 

@@ -49,12 +49,12 @@ abbrev pub Alike : ℕ → Labels → Bool → List Branch → List Branch → T
 Alike count tail carried of_query of_other =
     (of_other ≡ map (retailed_branch count tail carried) of_query) ⊎ EndsOverlong of_query
 
--- two maps that agree are one
+-- two functions that agree everywhere give the same of a list
 pub map_same : {A B : Type 0} (f g : A → B) (xs : List A) → ((x : A) → f x ≡ g x) → map f xs ≡ map g xs
 map_same f g [] same = refl
 map_same f g (x ∷ xs) same = ap (λ y. y ∷ map f xs) (same x) ∙ ap (λ ys. g x ∷ ys) (map_same f g xs same)
 
--- the last labels of a name replaced
+-- a name with a tail whose last labels are replaced by another tail is the name with that tail
 pub retailed_tail : (above own other : Labels) → retailed_name (length own) other (above ++ own) ≡ above ++ other
 retailed_tail above own other =
     let size : length (above ++ own) - length own ≡ length above = omega (arith, length-append above own) in
@@ -293,7 +293,7 @@ pub record Carries (config : Config) (own other name : Labels) : Type 0 where
   pub of_own : IsUnnamedTail config above own
   pub of_other : IsUnnamedTail config above other
 
--- a state that carries the query's last labels has such a name
+-- the name of a state that carries the query's last labels has the query's tail, unnamed below the labels above it
 abbrev pub Follows : Config → Labels → Labels → State → Type 0
 Follows config own other state = state.carried ≡ true → Carries config own other state.name
 
@@ -329,7 +329,8 @@ module _ (setting : Setting) (rtype : RrType) (own other : Labels) where
       ap (λ (b : Branch). b ∷ rest) (branch_stays branch each.0)
       ∙ ap (λ (bs : List Branch). retailed_branch (length own) other false branch ∷ bs) (branches_stay rest each.1)
 
-  -- the step of a state and of the state with the tail replaced
+  -- a state and the state with the tail replaced have the same branches, but for the tail, unless the query's end
+  -- overlong
   pub alike : (state : State) → tail_octets other ≤ tail_octets own → Follows setting.config own other state
       → Alike (length own) other state.carried (next setting rtype state) (next setting rtype (retailed_state (length own) other state))
   alike state shorter follows = by state.carried refl where
@@ -393,7 +394,7 @@ module _ (setting : Setting) (rtype : RrType) (own other : Labels) where
       (ap (answered zone (has.above ++ own) rtype) (sym (open_tail zone has.above own (opens_in setting.config has.above own state.server zone has.of_own nearest)))
       ∙ ap (λ (name : Labels). found zone name rtype) (sym has.is) ∙ looks.is ∙ ap (λ (b : Bool). found_as.Rewrite b owner to) flags.1)
 
-  -- each state that follows on a state is so too
+  -- if a state carries the query's unnamed tail, each state to which a branch of it leads does
   pub follows_on : (state : State) → Follows setting.config own other state → (number : ℕ) (hop : Hop) (to : State)
       → slice_get (next setting rtype state) number ≡ Some (Go hop to) → Follows setting.config own other to
   follows_on state follows number hop to is =

@@ -96,7 +96,8 @@ module _ (setting : Setting) (rtype : RrType) (own other : Labels) where
     abbrev pub NoneOverlong : State → Type 0
     NoneOverlong state = (numbers : List ℕ) (walk : Walk) → walk_from setting rtype numbers state ≡ Some walk → is_overlong walk.leaf ≡ false
 
-    -- then by the same numbers the other name has the same walk with the tail replaced, or neither has one
+    -- if no walk from a state ends overlong, by the same numbers the other name has the same walk with the tail
+    -- replaced, or neither has one
     pub along_from : (numbers : List ℕ) (state : State) → Follows setting.config own other state → NoneOverlong state
         → walk_from setting rtype numbers (changed_state state) ≡ option_map changed (walk_from setting rtype numbers state)
     along_from [] state follows none = refl
@@ -116,7 +117,7 @@ module _ (setting : Setting) (rtype : RrType) (own other : Labels) where
 
     -- ---- a walk of the query that doesn't end overlong
 
-    -- with the tail replaced it is a walk of the other name
+    -- a walk of the query that doesn't end overlong is, with the tail replaced, a walk of the other name
     pub walk_kept : (numbers : List ℕ) (state : State) (walk : Walk) → Follows setting.config own other state
         → walk_from setting rtype numbers state ≡ Some walk → is_overlong walk.leaf ≡ false
         → walk_from setting rtype numbers (changed_state state) ≡ Some (changed walk)
@@ -150,7 +151,7 @@ module _ (setting : Setting) (rtype : RrType) (own other : Labels) where
 
     -- ---- a walk of the query that ends overlong
 
-    -- it is the front of a walk from the state with the other tail
+    -- with the tail replaced the walk is the front of a walk from the state with the other tail
     abbrev pub FrontFrom : State → Walk → Type 0
     FrontFrom state walk =
         (numbers : List ℕ) × (whole : Walk) × (walk_from setting rtype numbers (changed_state state) ≡ Some whole) × IsFrontOf (changed walk) whole
@@ -200,7 +201,8 @@ module _ (setting : Setting) (rtype : RrType) (own other : Labels) where
       record { states = []; states_are = refl; hops = []; hops_are = hops_stay state hop },
     )
 
-    -- so is each walk of the query, if a walk goes on from each state
+    -- each walk of the query is, with the tail replaced, the front of a walk with the other tail, if a walk goes on
+    -- from each state
     pub overlong_front : ((state : State) → (numbers : List ℕ) × (walk : Walk) × (walk_from setting rtype numbers state ≡ Some walk))
         → (numbers : List ℕ) (state : State) (walk : Walk) → Follows setting.config own other state
         → walk_from setting rtype numbers state ≡ Some walk → FrontFrom state walk
@@ -236,7 +238,7 @@ module _ (setting : Setting) (rtype : RrType) (own other : Labels) where
         (hop : Hop) (to : State) (later : Walk) → slice_get (next setting rtype state) number ≡ Some (Go hop to)
         → walk_from setting rtype numbers (changed_state to) ≡ Some later → is_overlong later.leaf ≡ true → MeetsOverlong to
 
-    -- then some walk of the query from there ends overlong too
+    -- if a walk of the other name from a state ends overlong, so does some walk of the query from there
     pub overlong_back : (numbers : List ℕ) (state : State) (walk : Walk) → Follows setting.config own other state
         → walk_from setting rtype numbers (changed_state state) ≡ Some walk → is_overlong walk.leaf ≡ true → MeetsOverlong state
     overlong_back [] state walk follows e long = cc

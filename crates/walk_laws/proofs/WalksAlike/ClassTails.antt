@@ -51,14 +51,14 @@ named_everywhere config ground covers name named =
               covers.prefixes base begins.0 (subst (Contains ground.names) (sym begins.1) (covers.named_in_config of.0 of.1)))
         ]
 
--- the labels of a name below another one, of which the first makes an unnamed name
+-- the name is another one with labels below, the first of which makes an unnamed name
 pub record UnnamedBelow (ground : Ground) (above name : Labels) : Type 0 where
   pub first : List ℕ
   pub rest : Labels
   pub is : name ≡ above ++ first ∷ rest
   pub unnamed : IsNamed ground (above ++ first ∷ []) → ⊥
 
--- a member of a class below a name has such labels, since the class's name is the longest named one
+-- a member of a class below a name has labels below that name, the first of which the ground doesn't name there
 pub member_below : (ground : Ground) (above query : Labels) → IsClassOf ground query (Below above) → UnnamedBelow ground above query
 member_below ground above query (unnamed, member) = by member.below member.prefix where
   longer_unnamed : (label : List ℕ) (rest : Labels) → query ≡ above ++ label ∷ rest → IsNamed ground (above ++ label ∷ []) → ⊥
@@ -71,14 +71,15 @@ member_below ground above query (unnamed, member) = by member.below member.prefi
   by [] e = absurd (unnamed (subst (IsNamed ground) (sym (e ∙ append-nil above)) member.named))
   by (label ∷ rest) e = record { first = label; rest = rest; is = e; unnamed = longer_unnamed label rest e }
 
--- they are an unnamed tail where the ground names what the configuration names
+-- labels below a name, the first of which the ground doesn't name there, are an unnamed tail, if the ground names what
+-- the configuration names
 pub tail_of : (config : Config) (ground : Ground) → ((name : Labels) → IsNamed (ground_of config) name → IsNamed ground name)
     → (above name : Labels) → (below : UnnamedBelow ground above name) → IsUnnamedTail config above (below.first ∷ below.rest)
 tail_of config ground told above name below =
     record { first = below.first; rest = below.rest; is = refl; unnamed = λ named. below.unnamed (told (above ++ below.first ∷ []) named) }
 
--- the labels below the name of a class of a member and of the representative, under a ground that names what the
--- configuration names
+-- a member of a class below a name and its representative are that name with two unnamed tails, under a ground that
+-- names what the configuration names
 pub tails_in_class : (config : Config) (ground : Ground) → ((name : Labels) → IsNamed (ground_of config) name → IsNamed ground name)
     → (above query representative : Labels) → IsName query
     → IsClassOf ground query (Below above) → IsRepresentative ground (Below above) representative
@@ -120,9 +121,11 @@ tails_in_class config ground told above query representative is of_class stands 
       },
     )
 
--- and so under every ground that covers it. What follows a class's name in a member is unnamed (member_below); so is the
--- representative's label, by its definition. It isn't longer than the member's rest, since shorter labels are tried first
--- (FirstLabel.shorter_first). What a configuration names, a ground that covers it names too (named_everywhere).
+-- under every ground that covers the configuration a member of a class below a name and the class's representative are
+-- that name with two unnamed tails, the representative's with no more octets. What follows a class's name in a member
+-- is unnamed (member_below); so is the representative's label, by its definition. It isn't longer than the member's
+-- rest, since shorter labels are tried first (FirstLabel.shorter_first). What a configuration names, a ground that
+-- covers it names too (named_everywhere).
 pub class_tails : (config : Config) (ground : Ground) → Covers ground config → (above query representative : Labels) → IsName query
     → IsClassOf ground query (Below above) → IsRepresentative ground (Below above) representative
     → (own other : Labels) × (query ≡ above ++ own) × (representative ≡ above ++ other) × AreTails config above own other

@@ -52,7 +52,7 @@ begins_at setting query rtype (number ∷ numbers) walk e = by (slice_get (start
   by None is e = cc
   by (Some state) is e = record { number = number; rest = numbers; numbers_are = refl; state = state; starts = is; goes = e }
 
--- and a walk from a start state is one of the query
+-- a walk from a start state of a query is a walk of the query
 pub begun_walk : (setting : Setting) (query : Labels) (rtype : RrType) (number : ℕ) (numbers : List ℕ) (state : State) (walk : Walk)
     → slice_get (start setting.config query) number ≡ Some state → walk_from setting rtype numbers state ≡ Some walk
     → walk_along setting query rtype (number ∷ numbers) ≡ Some walk
@@ -312,9 +312,10 @@ module _ (config : Config) (rewrites : ℕ) (above own other : Labels) (tails : 
   reaches_more most =
       more_images (IsReached config rewrites (above ++ own)) (IsReached config rewrites (above ++ other)) most changed_pair reached_kept reached_apart
 
-  -- so it reaches no fewer. Each pair of the query is, with the tail replaced, one of the other name (reached_kept, by
-  -- front_kept), and no two pairs become one (reached_apart), since the name of each state ends in the query's tail
-  -- (states_follow); and as many images as there are pairs differ (Counting.more_images).
+  -- the name with the other tail reaches no fewer pairs than the query. Each pair of the query is, with the tail
+  -- replaced, one of the other name (reached_kept, by front_kept), and no two pairs become one (reached_apart), since
+  -- the name of each state ends in the query's tail (states_follow); and as many images as there are pairs differ
+  -- (Counting.more_images).
   pub reaches_no_fewer : (of_own of_other : List (State × RrType)) → AreReached config rewrites (above ++ own) of_own → AreReached config rewrites (above ++ other) of_other
       → length of_own ≤ length of_other
   reaches_no_fewer of_own of_other own_are other_are =

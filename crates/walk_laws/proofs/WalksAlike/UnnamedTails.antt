@@ -30,7 +30,7 @@ use Rattle.net_model.proofs.Prefixes.{prefixes_have, from_prefixes, longer, long
 -- ---- nothing stands below an unnamed name
 
 module _ (config : Config) (above : Labels) (first : List ℕ) (unnamed : IsNamed (ground_of config) (above ++ first ∷ []) → ⊥) where
-  -- no origin or owner is at or below it
+  -- no origin or owner of the configuration is at or below a name that it doesn't name
   pub far_names : (name : Labels) → Contains (origins_and_owners config) name → Begins (above ++ first ∷ []) name → ⊥
   far_names name has begins =
       unnamed (among_named (ground_of config) (above ++ first ∷ [])
@@ -67,7 +67,7 @@ module _ (config : Config) (above : Labels) (first : List ℕ) (unnamed : IsName
     by None is = refl
     by (Some holder) is = nearest_above holder rest (found_there (λ (s : Server). name_eq s.name server) config.servers holder is).0
 
-  -- nor does the name exist in a zone of the configuration
+  -- a name that the configuration doesn't name exists in none of its zones
   pub unnamed_is_missing : (zone : Zone) → Contains (zones config) zone → exists_in zone (above ++ first ∷ []) ≡ false
   unnamed_is_missing zone has =
       or_from (name_eq (above ++ first ∷ []) zone.origin) _ (at_origin (name_eq (above ++ first ∷ []) zone.origin) refl)
@@ -91,7 +91,7 @@ pub nearest_with_tail : (config : Config) (above tail : Labels) → IsUnnamedTai
 nearest_with_tail config above tail is server =
     ap (λ (x : Labels). nearest_of config server (above ++ x)) is.is ∙ nearest_of_above config above is.first is.unnamed server is.rest
 
--- and there the tail is open
+-- in the zone in which a server looks the name above up, an unnamed tail is open
 pub opens_in : (config : Config) (above tail server : Labels) (zone : Zone) → IsUnnamedTail config above tail
     → nearest_of config server above ≡ Some zone → IsOpenTail zone above tail
 opens_in config above tail server zone is nearest =
@@ -143,7 +143,8 @@ IsKnownAbove config above (ByRedirection owner (Some target)) =
     (below : Labels) × (above ≡ owner ++ below) × Contains (redirections_of config) (record { owner = owner; target = target })
 IsKnownAbove config above decides = Unit {0}
 
--- what decides at a name with an open tail is so
+-- if a redirection decides at a name with an open tail, it is one of the configuration, of an owner at or above the
+-- name
 pub known_above : (config : Config) (zone : Zone) (above : Labels) → Contains (zones config) zone → IsKnownAbove config above (open_deciding zone above)
 known_above config zone above has = by (zone_cut zone above) (redirecting zone above) refl where
   redirects : (owner : Labels) → redirecting zone above ≡ Some owner → (target : Option Labels) → first_name (targets_at zone owner types.Dname) ≡ target
