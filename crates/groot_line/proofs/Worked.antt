@@ -5,7 +5,8 @@ use Rattle.groot_line.specs.Job.{job_of}
 use Rattle.groot_line.specs.declared.fault.LineFault.{LineFault}
 use Rattle.groot_line.specs.declared.fault.LineFault.TheVariants.{Usage}
 use Rattle.groot_line.specs.declared.job.Job.{Job}
-use Rattle.groot_line.specs.declared.job.Job.TheVariants.{Check, Ask, Classes, Drill, Site, Recheck, Same, Scope}
+use Rattle.groot_line.specs.declared.job.Job.TheVariants.{OfConfig, Drill, Recheck, Same}
+use Rattle.groot_line.specs.declared.job.Task.TheVariants.{Check, Ask, Classes, Site, Scope}
 
 -- the job of a command and the words behind it
 abbrev said : List ℕ → List (List ℕ) → Result Job LineFault
@@ -15,19 +16,19 @@ abbrev check : List (List ℕ) → Result Job LineFault
 check words = said (codes "check") (codes "m.json" ∷ words)
 
 -- without options the numbers are those of the format
-plain_check : check [] ≡ Ok (Check (codes "m.json") 4 100000 12)
+plain_check : check [] ≡ Ok (OfConfig (codes "m.json") (Check 4 100000 12))
 plain_check = refl
 
-plain_classes : said (codes "classes") (codes "m.json" ∷ []) ≡ Ok (Classes (codes "m.json") 100000)
+plain_classes : said (codes "classes") (codes "m.json" ∷ []) ≡ Ok (OfConfig (codes "m.json") (Classes 100000))
 plain_classes = refl
 
 -- a value in the next word, and one behind an equals sign, before and behind the metadata file
 options : said (codes "check") (codes "--classes=1000000" ∷ codes "m.json" ∷ codes "--rewrites" ∷ codes "64" ∷ codes "--workers=0000001" ∷ [])
-    ≡ Ok (Check (codes "m.json") 1 1000000 64)
+    ≡ Ok (OfConfig (codes "m.json") (Check 1 1000000 64))
 options = refl
 
 -- a name without its last dot, and a type in any case
-query : said (codes "ask") (codes "m.json" ∷ codes "A.t" ∷ codes "aAaA" ∷ []) ≡ Ok (Ask (codes "m.json") (codes "t" ∷ codes "a" ∷ []) types.Aaaa)
+query : said (codes "ask") (codes "m.json" ∷ codes "A.t" ∷ codes "aAaA" ∷ []) ≡ Ok (OfConfig (codes "m.json") (Ask (codes "t" ∷ codes "a" ∷ []) types.Aaaa))
 query = refl
 
 -- no words, and no metadata file
@@ -111,7 +112,7 @@ no_number_of_zones : said (codes "drill") [] ≡ Err Usage
 no_number_of_zones = refl
 
 -- the checks of sites take a metadata file and no option
-plain_site : said (codes "site") (codes "m.json" ∷ []) ≡ Ok (Site (codes "m.json"))
+plain_site : said (codes "site") (codes "m.json" ∷ []) ≡ Ok (OfConfig (codes "m.json") Site)
 plain_site = refl
 
 site_without_meta : said (codes "site") [] ≡ Err Usage
@@ -165,10 +166,10 @@ workers_of_a_comparison : said (codes "same") (codes "m.json" ∷ codes "m2.json
 workers_of_a_comparison = refl
 
 -- a scope has a metadata file and a name, which is read as that of a query
-plain_scope : said (codes "scope") (codes "m.json" ∷ codes "b.T." ∷ []) ≡ Ok (Scope (codes "m.json") (codes "t" ∷ codes "b" ∷ []))
+plain_scope : said (codes "scope") (codes "m.json" ∷ codes "b.T." ∷ []) ≡ Ok (OfConfig (codes "m.json") (Scope (codes "t" ∷ codes "b" ∷ [])))
 plain_scope = refl
 
-scope_of_the_root : said (codes "scope") (codes "m.json" ∷ codes "." ∷ []) ≡ Ok (Scope (codes "m.json") [])
+scope_of_the_root : said (codes "scope") (codes "m.json" ∷ codes "." ∷ []) ≡ Ok (OfConfig (codes "m.json") (Scope []))
 scope_of_the_root = refl
 
 scope_without_name : said (codes "scope") (codes "m.json" ∷ []) ≡ Err Usage

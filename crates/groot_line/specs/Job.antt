@@ -11,7 +11,9 @@ use Rattle.groot_line.specs.declared.command.Command.TheVariants as commands
 use Rattle.groot_line.specs.declared.fault.LineFault.{LineFault}
 use Rattle.groot_line.specs.declared.fault.LineFault.TheVariants.{Usage}
 use Rattle.groot_line.specs.declared.job.Job.{Job}
-use Rattle.groot_line.specs.declared.job.Job.TheVariants.{Check, Ask, Classes, Drill, Site, Recheck, Same, Scope}
+use Rattle.groot_line.specs.declared.job.Job.TheVariants.{OfConfig, Drill, Recheck, Same}
+use Rattle.groot_line.specs.declared.job.Task.{Task}
+use Rattle.groot_line.specs.declared.job.Task.TheVariants.{Check, Ask, Classes, Site, Scope}
 use Rattle.groot_line.specs.declared.line_option.LineOption.TheVariants as options
 
 -- the query that operands ask
@@ -20,7 +22,7 @@ asked (meta_word ∷ name_word ∷ type_word ∷ []) = do
   meta ← asked_file meta_word
   name ← asked_name name_word
   rtype ← asked_type type_word
-  Ok (Ask meta name rtype)
+  Ok (OfConfig meta (Ask name rtype))
 asked operands = Err Usage
 
 -- the scope that operands name
@@ -28,7 +30,7 @@ abbrev pub asked_scope : List (List ℕ) → Result Job LineFault
 asked_scope (meta_word ∷ name_word ∷ []) = do
   meta ← asked_file meta_word
   name ← asked_name name_word
-  Ok (Scope meta name)
+  Ok (OfConfig meta (Scope name))
 asked_scope operands = Err Usage
 
 -- the job of a command and the words behind it
@@ -38,19 +40,19 @@ job_by commands.Check arguments = do
   workers ← number_by options.Workers arguments.workers
   classes ← number_by options.Classes arguments.classes
   rewrites ← number_by options.Rewrites arguments.rewrites
-  Ok (Check meta workers classes rewrites)
+  Ok (OfConfig meta (Check workers classes rewrites))
 job_by commands.Ask arguments = asked arguments.operands
 job_by commands.Classes arguments = do
   meta ← only_meta arguments.operands
   classes ← number_by options.Classes arguments.classes
-  Ok (Classes meta classes)
+  Ok (OfConfig meta (Classes classes))
 job_by commands.Drill arguments = do
   n ← drill_number arguments.operands
   workers ← number_by options.Workers arguments.workers
   Ok (Drill n workers)
 job_by commands.Site arguments = do
   meta ← only_meta arguments.operands
-  Ok (Site meta)
+  Ok (OfConfig meta Site)
 job_by commands.Recheck arguments = do
   files ← two_files arguments.operands
   Ok (Recheck files.0 files.1)
@@ -71,14 +73,18 @@ job_of (word ∷ words) = do
 abbrev pub InRange : ℕ → ℕ → Type 0
 InRange most n = (0 < n) × (n ≤ most)
 
+-- the numbers of a task are such as words may say
+abbrev pub IsTaskInRange : Task → Type 0
+IsTaskInRange (Check workers classes rewrites) =
+    InRange (most_of options.Workers) workers × InRange (most_of options.Classes) classes × InRange (most_of options.Rewrites) rewrites
+IsTaskInRange (Ask name rtype) = Unit {0}
+IsTaskInRange (Classes classes) = InRange (most_of options.Classes) classes
+IsTaskInRange Site = Unit {0}
+IsTaskInRange (Scope name) = Unit {0}
+
 -- the numbers of a job are such as words may say
 abbrev pub AreInRange : Job → Type 0
-AreInRange (Check meta workers classes rewrites) =
-    InRange (most_of options.Workers) workers × InRange (most_of options.Classes) classes × InRange (most_of options.Rewrites) rewrites
-AreInRange (Ask meta name rtype) = Unit {0}
-AreInRange (Classes meta classes) = InRange (most_of options.Classes) classes
+AreInRange (OfConfig meta task) = IsTaskInRange task
 AreInRange (Drill n workers) = InRange most_zones n × InRange (most_of options.Workers) workers
-AreInRange (Site meta) = Unit {0}
 AreInRange (Recheck meta report) = Unit {0}
 AreInRange (Same first second) = Unit {0}
-AreInRange (Scope meta name) = Unit {0}

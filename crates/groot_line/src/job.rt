@@ -17,46 +17,38 @@ use std::alloc::Global;
 /// What the words of the command line ask for.
 #[derive(Debug, Drop)]
 pub enum Job {
-    /// The report of the configuration that a metadata file gives.
+    /// What is asked of the configuration that a metadata file gives.
+    OfConfig { meta: Text, task: Task },
+    /// The report of this many zones that are made for it.
+    Drill { n: u32, workers: u32 },
+    /// Whether the entries of a report are right in the configuration that a metadata file gives.
+    Recheck { meta: Text, report: Text },
+    /// Whether the configurations that two metadata files give have the same answers.
+    Same { first: Text, second: Text },
+}
+
+/// What is asked of one configuration.
+#[derive(Debug, Drop)]
+pub enum Task {
+    /// Its report.
     Check {
-        meta: Text,
         workers: u32,
         classes: u32,
         rewrites: u32,
     },
     /// All walks of one query.
     Ask {
-        meta: Text,
         name: Name,
         rtype: RrType,
     },
     /// The classes of query names.
     Classes {
-        meta: Text,
         classes: u32,
     },
-    /// The report of this many zones that are made for it.
-    Drill {
-        n: u32,
-        workers: u32,
-    },
-    /// What the checks of sites find in the configuration that a metadata file gives.
-    Site {
-        meta: Text,
-    },
-    /// Whether the entries of a report are right in the configuration that a metadata file gives.
-    Recheck {
-        meta: Text,
-        report: Text,
-    },
-    /// Whether the configurations that two metadata files give have the same answers.
-    Same {
-        first: Text,
-        second: Text,
-    },
+    /// What the checks of sites find in it.
+    Site,
     /// The report on the queries at or below a name, and what the checks of sites find in their classes.
     Scope {
-        meta: Text,
         name: Name,
     },
 }
@@ -81,23 +73,28 @@ fn job_by(alloc: Global, command: Command, matches: &ArgMatches<'_>) -> Result<J
 {
     let operands = matches.get_strs("operands").unwrap_or(&[]);
     match command {
-        Command::Check => Ok(Job::Check {
+        Command::Check => Ok(Job::OfConfig {
             meta: only_meta(alloc, operands)?,
-            workers: number(matches, LineOption::Workers)?,
-            classes: number(matches, LineOption::Classes)?,
-            rewrites: number(matches, LineOption::Rewrites)?,
+            task: Task::Check {
+                workers: number(matches, LineOption::Workers)?,
+                classes: number(matches, LineOption::Classes)?,
+                rewrites: number(matches, LineOption::Rewrites)?,
+            },
         }),
         Command::Ask => asked(alloc, operands),
-        Command::Classes => Ok(Job::Classes {
+        Command::Classes => Ok(Job::OfConfig {
             meta: only_meta(alloc, operands)?,
-            classes: number(matches, LineOption::Classes)?,
+            task: Task::Classes {
+                classes: number(matches, LineOption::Classes)?,
+            },
         }),
         Command::Drill => Ok(Job::Drill {
             n: drill_number(operands)?,
             workers: number(matches, LineOption::Workers)?,
         }),
-        Command::Site => Ok(Job::Site {
+        Command::Site => Ok(Job::OfConfig {
             meta: only_meta(alloc, operands)?,
+            task: Task::Site,
         }),
         Command::Recheck => {
             let (meta, report) = two_files(alloc, operands)?;
@@ -121,7 +118,10 @@ fn asked(alloc: Global, operands: &[&str]) -> Result<Job, LineFault>
     let meta = asked_file(alloc, meta)?;
     let name = asked_name(alloc, name)?;
     let rtype = asked_type(rtype)?;
-    Ok(Job::Ask { meta, name, rtype })
+    Ok(Job::OfConfig {
+        meta,
+        task: Task::Ask { name, rtype },
+    })
 }
 
 /// The scope that operands name.
@@ -133,5 +133,8 @@ fn asked_scope(alloc: Global, operands: &[&str]) -> Result<Job, LineFault>
     };
     let meta = asked_file(alloc, meta)?;
     let name = asked_name(alloc, name)?;
-    Ok(Job::Scope { meta, name })
+    Ok(Job::OfConfig {
+        meta,
+        task: Task::Scope { name },
+    })
 }

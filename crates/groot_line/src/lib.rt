@@ -17,6 +17,6 @@ mod operands;
 mod usage;
 
 pub use fault::LineFault;
-pub use job::{Job, read_words};
+pub use job::{Job, Task, read_words};
 pub use line_option::{USUAL_NAMES, USUAL_REWRITES, USUAL_WORKERS};
 pub use usage::usage_line;

@@ -12,6 +12,8 @@ use Rattle.graph_form.specs.declared.report.ReportEntry.{ReportEntry}
 use Rattle.groot_line.specs.declared.fault.LineFault.{LineFault}
 use Rattle.groot_line.specs.declared.job.Job.{Job}
 use Rattle.groot_line.specs.declared.job.Job.TheVariants as jobs
+use Rattle.groot_line.specs.declared.job.Task.{Task}
+use Rattle.groot_line.specs.declared.job.Task.TheVariants as tasks
 use Rattle.io_edges.specs.Counts.{Rose}
 use Rattle.io_edges.specs.Files.{FilesTold}
 use Rattle.net_model.specs.declared.config.Config.{Config}
@@ -33,7 +35,7 @@ use Rattle.run_endings.specs.Ends.{IsNotLoaded}
 use Rattle.groot_run.specs.Counted.{EndsPast}
 use Rattle.groot_run.specs.JobEnds.{JobEnds, EndsOverConfig, EndsWithoutConfig}
 use Rattle.run_endings.specs.Endings.{OfReading, writes_nothing, no_memory}
-use Rattle.groot_run.specs.Outcome.{status_of, WithinNames, WithinStates, IsReported, Checks, ListsClasses, IsAnswerWith, Asks, IsDrilled, Drills, drill_names, drill_rewrites, TellsFindings, ShowsClasses, site_names, site_rewrites, answered_to, IsRechecked, Rechecks, Outcome, IsEnding, JobComesTo, NoJobReadFailed, Compares, ComparesWith, compared_of, told_same, IsScoped, Scopes, WithinScope}
+use Rattle.groot_run.specs.Outcome.{status_of, WithinNames, WithinStates, IsReported, Checks, ListsClasses, IsAnswerWith, Asks, IsDrilled, Drills, drill_names, drill_rewrites, TellsFindings, site_names, site_rewrites, answered_to, IsRechecked, Rechecks, GivesOf, Outcome, IsEnding, JobComesTo, NoJobReadFailed, Compares, ComparesWith, compared_of, told_same, IsScoped, WithinScope}
 
 -- ---- by what the files give
 
@@ -132,23 +134,22 @@ module _ (told : FilesTold) (said : Result Job LineFault) (sites : List Site) (b
   of_reading name of_value ending of (Misses file) ends = absurd ends
   of_reading name of_value ending of (Unknown file) ends = absurd ends
 
+  of_task : (task : Task) (ending : Ending) (config : Config) → GivesOf task sites config ending → Tells ending
+  of_task (tasks.Check workers classes rewrites) ending config =
+      within config classes rewrites (IsReported config rewrites ending) ending (λ is. subst Tells (sym is.as_text) (of_entries is.report.entries _))
+  of_task (tasks.Ask name rtype) ending config = an_answer name rtype config ending
+  of_task (tasks.Classes classes) ending config = a_list classes config ending
+  of_task tasks.Site ending config =
+      within config site_names site_rewrites (TellsFindings config sites ending) ending (λ are. subst Tells (sym are.as_text) tt)
+  of_task (tasks.Scope name) ending config =
+      within_scope config name (IsScoped config name sites ending) ending (λ is. subst Tells (sym is.as_text) (of_entries is.report.entries _))
+
   of_outcome : (files : FilesTold) (job : Result Job LineFault) (ending : Ending) → Outcome files job sites ending → Tells ending
-  of_outcome files (Ok (jobs.Check meta workers classes rewrites)) ending =
-      of_reading meta (Checks classes rewrites) ending
-      (λ config. within config classes rewrites (IsReported config rewrites ending) ending (λ is. subst Tells (sym is.as_text) (of_entries is.report.entries _)))
-      (conf meta files)
-  of_outcome files (Ok (jobs.Classes meta classes)) ending =
-      of_reading meta (ListsClasses classes) ending (λ config. a_list classes config ending) (conf meta files)
-  of_outcome files (Ok (jobs.Ask meta name rtype)) ending =
-      of_reading meta (Asks name rtype) ending (λ config. an_answer name rtype config ending) (conf meta files)
+  of_outcome files (Ok (jobs.OfConfig meta task)) ending = of_reading meta (GivesOf task sites) ending (of_task task ending) (conf meta files)
   of_outcome files (Ok (jobs.Drill zones workers)) ending =
       of_reading (codes "meta.json") (Drills zones) ending
       (λ config. within config drill_names drill_rewrites (IsDrilled zones config ending) ending (λ is. subst Tells (sym is.as_line) (of_entries is.report.entries _)))
       (conf (codes "meta.json") (drill_told zones))
-  of_outcome files (Ok (jobs.Site meta)) ending =
-      of_reading meta (ShowsClasses sites) ending
-      (λ config. within config site_names site_rewrites (TellsFindings config sites ending) ending (λ are. subst Tells (sym are.as_text) tt))
-      (conf meta files)
   of_outcome files (Ok (jobs.Recheck meta report)) ending =
       of_reading meta (Rechecks files report) ending
       (λ config. of_reading report (IsRechecked report config) ending (λ octets. the_answer report config octets ending) (file_octets report files))
@@ -157,10 +158,6 @@ module _ (told : FilesTold) (said : Result Job LineFault) (sites : List Site) (b
       of_reading first (ComparesWith files second) ending
       (λ config. of_reading second (λ other. Compares (compared_of config other)) ending (λ other. a_comparison (compared_of config other) ending) (conf second files))
       (conf first files)
-  of_outcome files (Ok (jobs.Scope meta name)) ending =
-      of_reading meta (Scopes name sites) ending
-      (λ config. within_scope config name (IsScoped config name sites ending) ending (λ is. subst Tells (sym is.as_text) (of_entries is.report.entries _)))
-      (conf meta files)
   of_outcome files (Err fault) ending = λ is. subst Tells (sym is) refl
 
   module _ (job : Job) (is_job : said ≡ Ok job) (ending : Ending) (ended : JobEnds told (Ok job) sites before after ending) where
@@ -184,7 +181,7 @@ module _ (told : FilesTold) (said : Result Job LineFault) (sites : List Site) (b
 
     -- where no read failed, the check of a configuration that was read ends as such checks do, or because memory ran out
     pub headline : (meta : List ℕ) (workers classes rewrites : ℕ) (config : Config)
-        → said ≡ Ok (jobs.Check meta workers classes rewrites) → conf meta told ≡ Reads config → NoReadFailed meta told before after
+        → said ≡ Ok (jobs.OfConfig meta (tasks.Check workers classes rewrites)) → conf meta told ≡ Reads config → NoReadFailed meta told before after
         → Checks classes rewrites config ending ⊎ (ending ≡ no_memory)
     headline meta workers classes rewrites config is reads none =
         by (complete (subst (λ (other : Result Job LineFault). NoJobReadFailed told other before after) (sym is) none)) where

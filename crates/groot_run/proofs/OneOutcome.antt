@@ -16,10 +16,12 @@ use Rattle.config_load.specs.Reading.{Reading, Reads, Refuses, Misses, Unknown, 
 use Rattle.groot_line.specs.declared.fault.LineFault.{LineFault}
 use Rattle.groot_line.specs.declared.job.Job.{Job}
 use Rattle.groot_line.specs.declared.job.Job.TheVariants as jobs
+use Rattle.groot_line.specs.declared.job.Task.{Task}
+use Rattle.groot_line.specs.declared.job.Task.TheVariants as tasks
 use Rattle.plain_resolver.specs.Passed.{most_walks_followed}
 use Rattle.run_endings.specs.declared.ending.Ending.{Ending}
 use Rattle.run_endings.specs.Endings.{OfReading, too_many_to_learn}
-use Rattle.groot_run.specs.Outcome.{reported, listed, WithinNames, WithinStates, IsReported, too_many_states, Checks, IsClassList, ListsClasses, ask_rewrites, IsAnswerWith, Asks, walks_written, Outcome, Drills, IsDrilled, drilled, drill_names, drill_rewrites, answered_to, IsRechecked, Rechecks, TellsFindings, ShowsClasses, told_of_views, site_names, site_rewrites, Compares, ComparesWith, compared_of, told_same, IsScoped, Scopes, WithinScope, scope_of, scope_written}
+use Rattle.groot_run.specs.Outcome.{reported, listed, WithinNames, WithinStates, IsReported, too_many_states, Checks, IsClassList, ListsClasses, ask_rewrites, IsAnswerWith, Asks, walks_written, GivesOf, Outcome, Drills, IsDrilled, drilled, drill_names, drill_rewrites, answered_to, IsRechecked, Rechecks, TellsFindings, ShowsClasses, told_of_views, site_names, site_rewrites, Compares, ComparesWith, compared_of, told_same, IsScoped, Scopes, WithinScope, scope_of, scope_written}
 use Rattle.report_check.proofs.OneAnswer.{only_answer}
 use Rattle.same_answers.specs.Compared.{Compared}
 use Rattle.same_answers.proofs.OneSameness.{one_sameness, one_passed as one_passed_in_one}
@@ -150,22 +152,22 @@ one_same : (told : FilesTold) (second : List ℕ) (config : Config) (a b : Endin
 one_same told second config a b =
     one_by_reading second (λ other. Compares (compared_of config other)) (λ other. one_comparison (compared_of config other)) (conf second told) a b
 
+-- two outcomes of a task over the same configuration are equal
+one_of_task : (task : Task) (sites : List Site) (config : Config) (a b : Ending) → GivesOf task sites config a → GivesOf task sites config b → a ≡ b
+one_of_task (tasks.Check workers classes rewrites) sites = one_check classes rewrites
+one_of_task (tasks.Ask name rtype) sites = one_asked name rtype
+one_of_task (tasks.Classes classes) sites = one_list classes
+one_of_task tasks.Site sites = one_told sites
+one_of_task (tasks.Scope name) sites = one_scope name sites
+
 -- two outcomes of a job, by the same that is told of the files, are equal
 pub one_outcome : (told : FilesTold) (job : Result Job LineFault) (sites : List Site) (a b : Ending) → Outcome told job sites a → Outcome told job sites b → a ≡ b
-one_outcome told (Ok (jobs.Check meta workers classes rewrites)) sites a b =
-    one_by_reading meta (Checks classes rewrites) (one_check classes rewrites) (conf meta told) a b
-one_outcome told (Ok (jobs.Classes meta classes)) sites a b =
-    one_by_reading meta (ListsClasses classes) (one_list classes) (conf meta told) a b
-one_outcome told (Ok (jobs.Ask meta name rtype)) sites a b =
-    one_by_reading meta (Asks name rtype) (one_asked name rtype) (conf meta told) a b
+one_outcome told (Ok (jobs.OfConfig meta task)) sites a b =
+    one_by_reading meta (GivesOf task sites) (one_of_task task sites) (conf meta told) a b
 one_outcome told (Ok (jobs.Drill zones workers)) sites a b =
     one_by_reading (codes "meta.json") (Drills zones) (one_drill zones) (conf (codes "meta.json") (drill_told zones)) a b
-one_outcome told (Ok (jobs.Site meta)) sites a b =
-    one_by_reading meta (ShowsClasses sites) (one_told sites) (conf meta told) a b
 one_outcome told (Ok (jobs.Recheck meta report)) sites a b =
     one_by_reading meta (Rechecks told report) (one_recheck told report) (conf meta told) a b
 one_outcome told (Ok (jobs.Same first second)) sites a b =
     one_by_reading first (ComparesWith told second) (one_same told second) (conf first told) a b
-one_outcome told (Ok (jobs.Scope meta name)) sites a b =
-    one_by_reading meta (Scopes name sites) (one_scope name sites) (conf meta told) a b
 one_outcome told (Err fault) sites a b = λ p q. p ∙ sym q

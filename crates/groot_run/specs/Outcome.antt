@@ -35,6 +35,8 @@ use Rattle.groot_line.specs.Usage.{usage_line}
 use Rattle.groot_line.specs.declared.fault.LineFault.{LineFault}
 use Rattle.groot_line.specs.declared.job.Job.{Job}
 use Rattle.groot_line.specs.declared.job.Job.TheVariants as jobs
+use Rattle.groot_line.specs.declared.job.Task.{Task}
+use Rattle.groot_line.specs.declared.job.Task.TheVariants as tasks
 use Rattle.run_endings.specs.declared.ending.Ending.{Ending}
 use Rattle.run_endings.specs.declared.status.Status.{Status}
 use Rattle.run_endings.specs.Endings.{OfReading, with_output, without_output, read_failed, no_memory, too_many_names, too_many_states as too_many_states_than, too_many_to_learn}
@@ -349,17 +351,21 @@ pub record IsScoped (config : Config) (name : Labels) (sites : List Site) (endin
 abbrev pub Scopes : Labels → List Site → Config → Ending → Type 0
 Scopes name sites config ending = WithinScope config name (IsScoped config name sites ending) ending
 
+-- what a task gives of its configuration, by the checks that the operator brings
+abbrev pub GivesOf : Task → List Site → Config → Ending → Type 0
+GivesOf (tasks.Check workers classes rewrites) sites = Checks classes rewrites
+GivesOf (tasks.Ask name rtype) sites = Asks name rtype
+GivesOf (tasks.Classes classes) sites = ListsClasses classes
+GivesOf tasks.Site sites = ShowsClasses sites
+GivesOf (tasks.Scope name) sites = Scopes name sites
+
 -- what the words' job gives, by what is told of the files, and by the checks that the operator brings; a drill reads
 -- its own files
 abbrev pub Outcome : FilesTold → Result Job LineFault → List Site → Ending → Type 0
-Outcome told (Ok (jobs.Check meta workers classes rewrites)) sites ending = OfReading meta (Checks classes rewrites) (conf meta told) ending
-Outcome told (Ok (jobs.Classes meta classes)) sites ending = OfReading meta (ListsClasses classes) (conf meta told) ending
-Outcome told (Ok (jobs.Ask meta name rtype)) sites ending = OfReading meta (Asks name rtype) (conf meta told) ending
+Outcome told (Ok (jobs.OfConfig meta task)) sites ending = OfReading meta (GivesOf task sites) (conf meta told) ending
 Outcome told (Ok (jobs.Drill zones workers)) sites ending = OfReading (codes "meta.json") (Drills zones) (conf (codes "meta.json") (drill_told zones)) ending
-Outcome told (Ok (jobs.Site meta)) sites ending = OfReading meta (ShowsClasses sites) (conf meta told) ending
 Outcome told (Ok (jobs.Recheck meta report)) sites ending = OfReading meta (Rechecks told report) (conf meta told) ending
 Outcome told (Ok (jobs.Same first second)) sites ending = OfReading first (ComparesWith told second) (conf first told) ending
-Outcome told (Ok (jobs.Scope meta name)) sites ending = OfReading meta (Scopes name sites) (conf meta told) ending
 Outcome told job sites ending = ending ≡ usage
 
 -- a run ends in the outcome of its job, in a failed read or because memory ran out
@@ -372,13 +378,9 @@ IsEnding told job sites ending =
 -- The job comes to the file: every step of its reading before gives no refusal, and comes to no opened name that isn't
 -- held.
 abbrev pub JobComesTo : FilesTold → Result Job LineFault → List ℕ → Type 0
-JobComesTo told (Ok (jobs.Check meta workers classes rewrites)) file = ReadingComesTo meta told file
-JobComesTo told (Ok (jobs.Classes meta classes)) file = ReadingComesTo meta told file
-JobComesTo told (Ok (jobs.Ask meta name rtype)) file = ReadingComesTo meta told file
-JobComesTo told (Ok (jobs.Site meta)) file = ReadingComesTo meta told file
+JobComesTo told (Ok (jobs.OfConfig meta task)) file = ReadingComesTo meta told file
 JobComesTo told (Ok (jobs.Recheck meta report)) file = ComesToFile (both (conf meta) (file_octets report)) told file
 JobComesTo told (Ok (jobs.Same first second)) file = ComesToFile (both (conf first) (conf second)) told file
-JobComesTo told (Ok (jobs.Scope meta name)) file = ReadingComesTo meta told file
 JobComesTo told job file = ⊥
 
 -- no other file is opened than those to which the job comes: of any other name the same is told as before

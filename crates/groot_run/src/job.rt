@@ -1,11 +1,11 @@
 //! What a job gives.
 
-ghost use Rattle.std.specs.Prelude.{◌≡◌, ◌≢◌, ◌⊎◌, map, Ok, Some, None, IfSome, IfNone};
+ghost use Rattle.std.specs.Prelude.{◌≡◌, ◌⊎◌, map, Ok};
 ghost use Rattle.io_edges.specs.Files.{TellsAll};
-ghost use Rattle.groot_line.specs.Job.{AreInRange};
+ghost use Rattle.groot_line.specs.Job.{AreInRange, IsTaskInRange};
 ghost use Rattle.run_endings.specs.Endings.{no_memory};
-ghost use Rattle.groot_run.specs.JobEnds.{GivesOf, JobEnds, meta_of};
-ghost use Rattle.groot_run.specs.Outcome.{JobOpensNoOther};
+ghost use Rattle.groot_run.specs.JobEnds.{JobEnds};
+ghost use Rattle.groot_run.specs.Outcome.{GivesOf, JobOpensNoOther};
 
 use crate::ask::ask;
 use crate::check::check;
@@ -17,7 +17,7 @@ use crate::recheck::recheck;
 use crate::same::same;
 use crate::scope::scope;
 use crate::site::site;
-use groot_line::Job;
+use groot_line::{Job, Task};
 use io_edges::{Files, Gate};
 use net_model::Config;
 use run_endings::Ending;
@@ -42,13 +42,11 @@ pub(crate) fn of_job<F: Files, G: Gate + Sync, R: Threads + Wait + Sync>(
     ensures from_the_start { TellsAll (F.told files.old) → F.told files.new ≡ F.told files.old }
     ensures opens { JobOpensNoOther (F.told files.old) (F.told files.new) (Ok job.now) }
 {
-    if let Some(meta) = meta_of(job) {
-        return match configuration(alloc, files, meta) {
-            Ok(config) => of_config(rt, alloc, &config, job, gate, sites),
-            Err(ending) => ending,
-        };
-    }
     match job {
+        Job::OfConfig { meta, task } => match configuration(alloc, files, meta.as_str()) {
+            Ok(config) => of_task(rt, alloc, &config, task, gate, sites),
+            Err(ending) => ending,
+        },
         Job::Drill { n, workers } => drill(rt, alloc, *n, *workers, gate),
         Job::Recheck { meta, report } => recheck(alloc, files, meta.as_str(), report.as_str()),
         Job::Same { first, second } => same(
@@ -59,45 +57,27 @@ pub(crate) fn of_job<F: Files, G: Gate + Sync, R: Threads + Wait + Sync>(
             second.as_str(),
             gate,
         ),
-        _ => unreachable!(),
     }
 }
 
-/// The metadata file of a job on one configuration, which reads the files of that one and no others.
-fn meta_of(job: &Job) -> Option<&str>
-    ensures some { IfSome result (λ meta. meta_of job.now ≡ Some meta.now) }
-    ensures none { IfNone result (meta_of job.now ≡ None) }
-{
-    match job {
-        Job::Check { meta, .. } => Some(meta.as_str()),
-        Job::Classes { meta, .. } => Some(meta.as_str()),
-        Job::Ask { meta, .. } => Some(meta.as_str()),
-        Job::Site { meta } => Some(meta.as_str()),
-        Job::Scope { meta, .. } => Some(meta.as_str()),
-        Job::Drill { .. } | Job::Recheck { .. } | Job::Same { .. } => None,
-    }
-}
-
-/// What a job on one configuration gives of it.
-fn of_config<G: Gate + Sync, R: Threads + Wait + Sync>(
+/// What a task gives of its configuration.
+fn of_task<G: Gate + Sync, R: Threads + Wait + Sync>(
     rt: &R,
     alloc: Global,
     config: &Config,
-    job: &Job,
+    task: &Task,
     gate: &G,
     sites: &mut Vec<Box<dyn SiteCheck>>,
 ) -> Ending
-    requires range { AreInRange job.now }
-    requires on_one { meta_of job.now ≢ None }
-    ensures { GivesOf job.now (map (λ b. record { name = name b; held = held b; step = step b }) sites.old.items) config.now result
+    requires { IsTaskInRange task.now }
+    ensures { GivesOf task.now (map (λ b. record { name = name b; held = held b; step = step b }) sites.old.items) config.now result
         ⊎ (result ≡ no_memory) }
 {
-    match job {
-        Job::Check {
+    match task {
+        Task::Check {
             workers,
             classes,
             rewrites,
-            ..
         } => {
             let limits = CheckLimits {
                 workers: *workers,
@@ -106,10 +86,9 @@ fn of_config<G: Gate + Sync, R: Threads + Wait + Sync>(
             };
             check(rt, alloc, config, limits, gate)
         }
-        Job::Classes { classes, .. } => list_classes(alloc, config, *classes),
-        Job::Ask { name, rtype, .. } => ask(alloc, config, name, *rtype),
-        Job::Site { .. } => site(alloc, config, sites),
-        Job::Scope { name, .. } => scope(rt, alloc, config, name, gate, sites),
-        _ => unreachable!(),
+        Task::Ask { name, rtype } => ask(alloc, config, name, *rtype),
+        Task::Classes { classes } => list_classes(alloc, config, *classes),
+        Task::Site => site(alloc, config, sites),
+        Task::Scope { name } => scope(rt, alloc, config, name, gate, sites),
     }
 }

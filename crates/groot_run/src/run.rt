@@ -8,7 +8,8 @@ ghost use Rattle.net_model.specs.declared.config.Config.{Config as Configuration
 ghost use Rattle.config_load.specs.Conf.{conf};
 ghost use Rattle.config_load.specs.Load.{NoReadFailed};
 ghost use Rattle.config_load.specs.Reading.{Reads};
-ghost use Rattle.groot_line.specs.declared.job.Job.TheVariants.{Check};
+ghost use Rattle.groot_line.specs.declared.job.Job.TheVariants.{OfConfig};
+ghost use Rattle.groot_line.specs.declared.job.Task.TheVariants.{Check};
 ghost use Rattle.groot_line.specs.Job.{job_of};
 ghost use Rattle.run_endings.specs.declared.ending.Ending.{Ending as Ended};
 ghost use Rattle.groot_run.specs.Laws.{HasClasses};
@@ -45,7 +46,7 @@ pub fn groot_with_sites<F: Files, O: Sink, E: Sink, G: Gate + Sync, R: Threads +
     // class's representative; and out took exactly the text of their report, unless a budget is passed, and the status says
     // whether it has a fault. So it is for every number of workers and every schedule, if the call returns.
     ensures headline { (meta : List ℕ) (workers classes rewrites : ℕ) (config : Configuration) →
-        job_of (map (λ word. word.now) words.now) ≡ Ok (Check meta workers classes rewrites) →
+        job_of (map (λ word. word.now) words.now) ≡ Ok (OfConfig meta (Check workers classes rewrites)) →
         conf meta (F.told files.new) ≡ Reads config →
         NoReadFailed meta (F.told files.new) (F.faults files.old) (F.faults files.new) →
         (Rose (O.faults out.old) (O.faults out.new) → ⊥) →
@@ -107,7 +108,7 @@ pub fn groot<F: Files, O: Sink, E: Sink, G: Gate + Sync, R: Threads + Wait + Syn
     // class's representative; and out took exactly the text of their report, unless a budget is passed, and the status says
     // whether it has a fault. So it is for every number of workers and every schedule, if the call returns.
     ensures headline { (meta : List ℕ) (workers classes rewrites : ℕ) (config : Configuration) →
-        job_of (map (λ word. word.now) words.now) ≡ Ok (Check meta workers classes rewrites) →
+        job_of (map (λ word. word.now) words.now) ≡ Ok (OfConfig meta (Check workers classes rewrites)) →
         conf meta (F.told files.new) ≡ Reads config →
         NoReadFailed meta (F.told files.new) (F.faults files.old) (F.faults files.new) →
         (Rose (O.faults out.old) (O.faults out.new) → ⊥) →
@@ -156,7 +157,7 @@ pub fn run_words<F: Files, G: Gate + Sync, R: Threads + Wait + Sync>(
 ) -> Ending
     // For files that read, by the octets that were read of them, the run ends in the report of their configuration.
     ensures headline { (meta : List ℕ) (workers classes rewrites : ℕ) (config : Configuration) →
-        job_of (map (λ word. word.now) words.now) ≡ Ok (Check meta workers classes rewrites) →
+        job_of (map (λ word. word.now) words.now) ≡ Ok (OfConfig meta (Check workers classes rewrites)) →
         conf meta (F.told files.new) ≡ Reads config →
         NoReadFailed meta (F.told files.new) (F.faults files.old) (F.faults files.new) →
         Checks classes rewrites config result ⊎ (result ≡ no_memory) }
