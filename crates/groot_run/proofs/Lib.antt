@@ -5,7 +5,6 @@ pub mod ComparedTrees
 pub mod Endings
 pub mod JudgedScopes
 pub mod HandedChecks
-pub mod JobsOnOne
 pub mod JudgedTrees
 pub mod OneAnswer
 pub mod OneClassList
