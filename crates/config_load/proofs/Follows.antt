@@ -97,11 +97,6 @@ module _ {A B : Type 0} where
   Answers-passed told first next fault (Err passed) is a =
       subst (λ f. let answer : Result B LoadFault = Err f in Answers told (λ t. first t >>= next t) answer) (sym is) (Answers-bind told first next fault a)
 
-  -- what answers the second step, with the value of the first, answers both steps
-  pub Answers-next : (old new : FilesTold) (first : ByTold A) (value : A) (next : FilesTold → A → Reading B) (result : Result B LoadFault) → StaysTold old new → Follows old first (λ _. Reads value) → Answers new (λ t. next t value) result → Answers new (λ t. first t >>= next t) result
-  Answers-next old new first value next result stays a b =
-      Answers-then old new (λ t. first t >>= next t) (λ t. next t value) result stays (Follows-bind old first (λ _. Reads value) next a) b
-
 -- a file of which octets are told
 follows_holds : (told : FilesTold) (name octets : List ℕ) (reading : Reading (List ℕ)) → told name ≡ Holds octets → told_octets name (Holds octets) ≡ reading → Follows told (file_octets name) (λ _. reading)
 follows_holds told name octets reading here is other no_other = by_cases (no_other name) where

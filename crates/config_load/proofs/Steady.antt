@@ -57,12 +57,6 @@ module _ {A B : Type 0} where
     by (inl same) = subst (λ read. (read >>= next later ≡ first told >>= next told) ⊎ StopsEarly later told (first told >>= next told)) (sym same) (on (first told))
     by (inr (name, is, untold, some)) = inr (name, ap (λ read. read >>= next told) is, untold, some)
 
-module _ {A B : Type 0} where
-  -- two steady readings, one after the other, are steady
-  pub both_are_steady : (first : ByTold A) (second : ByTold B) → IsSteady first → IsSteady second → IsSteady (both first second)
-  both_are_steady first second steady other = bind_is_steady first (λ told one. second told >>= λ two. Reads (one, two)) steady
-      (λ one. bind_is_steady second (λ told two. Reads (one, two)) other (λ two. known_is_steady (Reads (one, two))))
-
 -- the texts of files, and what follows with the file that they ask for
 settled_is_steady : (names : List (List ℕ)) (next : FilesTold → List ℕ → Reading ZoneFiles) → ((file : List ℕ) → IsSteady (λ told. next told file)) → (given : Result ZoneText Unread) → IsSteady (λ told. settled names (next told) given)
 settled_is_steady names next each (Ok text) = known_is_steady _

@@ -19,7 +19,7 @@ use Rattle.graph_form.specs.declared.node.Branch.TheVariants.{Go, End}
 use Rattle.graph_form.specs.declared.node.Node.{Node}
 use Rattle.graph_form.specs.declared.report.Seen.{Seen}
 use Rattle.graph_form.proofs.EndHops.{is_stopped}
-use Rattle.graph_form.proofs.NoCircle.{at_place, told_step}
+use Rattle.graph_form.proofs.NoCircle.{told_step}
 use Rattle.graph_form.proofs.ReachedHops.{HasHop, HopAt, WalkWith, hop_of_walk, walk_with}
 use Rattle.graph_form.proofs.ReachedNodes.{EndOf, WalkBy, end_of_walk, walk_by}
 use Rattle.graph_form.proofs.ShownKinds.{stopped_behind}
@@ -39,6 +39,7 @@ use Rattle.net_model.specs.declared.walk.Leaf.{Leaf}
 use Rattle.net_model.specs.declared.walk.Leaf.TheVariants as leaves
 use Rattle.net_model.specs.declared.walk.Walk.{Walk}
 use Rattle.net_model.proofs.Naming.{from_listed, is_listed}
+use Rattle.net_model.proofs.WalkEnds.{item}
 use Rattle.delegation_checks.specs.Delegations.{IsGraphIn, is_of_delegations}
 use Rattle.delegation_checks.specs.Met.{AreOfReferrals}
 use Rattle.delegation_checks.specs.Referrals.{leaf_faults, typed_referrals}
@@ -191,7 +192,7 @@ module _ (setting : Setting) (query : Labels) (deps : Deps) (graph : PlainGraph)
     steps : (branch : Branch) → HasBranch graph rtype at.at at.number at.node branch → (other : step.Branch) × TellsStep graph branch other × BranchInside other
     steps branch has =
         let told = told_step setting query graph rtype is at.at at.number at.node branch has in
-        (told.0, told.2, at_place BranchInside (next setting rtype at.node.state) at.number told.0 (next_inside setting at.node.state rtype) told.1)
+        (told.0, told.2, item BranchInside (next setting rtype at.node.state) at.number told.0 (next_inside setting at.node.state rtype) told.1)
 
     by : (branch : Branch) → HasBranch graph rtype at.at at.number at.node branch → HasHop (Refer cut) branch → is_prefix cut.zone cut.cut ≡ true
     by (Go hop to) has same =

@@ -8,7 +8,7 @@ use Rattle.dns_data.specs.declared.rdata.Rdata.TheVariants.{A, Ns, Cname, Soa}
 use Rattle.dns_data.specs.declared.rr_type.RrType.TheVariants as types
 use Rattle.master_lex.specs.Octets.{kind}
 use Rattle.rdata_forms.specs.declared.fault.RdataFault.TheVariants.{BadName}
-use Rattle.master_read.specs.Words.{class_word, type_word, is_among}
+use Rattle.master_read.specs.Words.{class_word, type_word, is_some_word}
 use Rattle.zone_maker.specs.Drill.{zone_numbers, next_zone, own_network}
 use Rattle.drill_laws.proofs.Lines.{IsWord}
 use Rattle.drill_laws.proofs.Rows.{Row, IsRow, IsTypeText}
@@ -105,19 +105,19 @@ zone_rows n i =
 -- ---- words of types and numbers
 
 ns_type : IsTypeText (codes "NS") types.Ns
-unfolding class_word type_word is_among
+unfolding class_word type_word is_some_word
 ns_type = record { no_ttl = refl; no_class = refl; known = refl }
 
 a_type : IsTypeText (codes "A") types.A
-unfolding class_word type_word is_among
+unfolding class_word type_word is_some_word
 a_type = record { no_ttl = refl; no_class = refl; known = refl }
 
 soa_type : IsTypeText (codes "SOA") types.Soa
-unfolding class_word type_word is_among
+unfolding class_word type_word is_some_word
 soa_type = record { no_ttl = refl; no_class = refl; known = refl }
 
 cname_type : IsTypeText (codes "CNAME") types.Cname
-unfolding class_word type_word is_among
+unfolding class_word type_word is_some_word
 cname_type = record { no_ttl = refl; no_class = refl; known = refl }
 
 ns_word : IsWord (codes "NS")

@@ -1,7 +1,6 @@
 -- A path of a graph of a query comes to no node twice: each step uses a rewrite more or has a longer zone cut.
-use Rattle.std.proofs.Common.{◌≡◌, ℕ, zero, suc, ◌<◌, Bool, true, List, [], ◌∷◌, refl, sym, ap, ◌∙◌, subst, inl, inr, Some, None, arith}
+use Rattle.std.proofs.Common.{◌≡◌, ℕ, ◌<◌, Bool, true, List, [], ◌∷◌, refl, sym, ap, ◌∙◌, subst, inl, inr, Some, None, arith}
 use Rattle.std.specs.Prelude.{◌⊎◌, Contains, slice_get, Option}
-use Rattle.std.specs.List.{AllByRecursion}
 use Rattle.std.specs.Option.{option_map_or}
 use Rattle.dns_data.specs.Name.{Labels}
 use Rattle.dns_data.specs.TypeSet.{has_bit}
@@ -14,6 +13,7 @@ use Rattle.net_model.specs.declared.walk.Hop.{Hop}
 use Rattle.net_model.specs.declared.walk.Hop.TheVariants.{Refer, Rewrite}
 use Rattle.net_model.specs.declared.walk.State.{State}
 use Rattle.net_model.proofs.StepBounds.{IsNear, StepsOn, BranchStepsOn, next_steps}
+use Rattle.net_model.proofs.WalkEnds.{item}
 use Rattle.graph_form.specs.Graph.{HasBranch, PlainGraph, arm_of, branches_of}
 use Rattle.graph_form.specs.GraphOf.{HasState, IsArm, IsGraphOf, TellsStep}
 use Rattle.graph_form.specs.declared.first_path.Turn.{Turn}
@@ -24,12 +24,6 @@ use Rattle.graph_form.specs.declared.node.Node.{Node}
 use Rattle.graph_form.proofs.FirstPaths.{LedTo}
 use Rattle.graph_form.proofs.Paths.{same_item}
 use Rattle.graph_form.proofs.Places.{PairAt, pair_at, item_there, place_of_item}
-
--- what holds of all items of a list holds of the one at a place
-pub at_place : {A : Type 0} (P : A → Type 0) (xs : List A) (k : ℕ) (x : A) → AllByRecursion P xs → slice_get xs k ≡ Some x → P x
-at_place P [] k x all e = cc
-at_place P (y ∷ ys) zero x all e = let same : y ≡ x = cc in subst P same all.0
-at_place P (y ∷ ys) (suc k) x all e = at_place P ys k x all.1 e
 
 -- the state uses fewer rewrites than the other, or as many and has a shorter zone cut
 abbrev pub Earlier : State → State → Type 0
@@ -112,7 +106,7 @@ module _ (setting : Setting) (query : Labels) (graph : PlainGraph) (rtype : RrTy
   steps_on : (at number to : ℕ) (hop : Hop) (node : Node) → HasBranch graph rtype at number node (Go hop to) → IsNear setting node.state → Steps at to
   steps_on at number to hop node has near =
       let told = told_step at number node (Go hop to) has in
-      let branch = at_place (BranchStepsOn setting node.state) (next setting rtype node.state) number told.0 (next_steps setting node.state rtype near) told.1 in
+      let branch = item (BranchStepsOn setting node.state) (next setting rtype node.state) number told.0 (next_steps setting node.state rtype near) told.1 in
       let step : StepsOn setting node.state hop told.2.0 = subst (BranchStepsOn setting node.state) told.2.1 branch in
       record {
         one = node.state;

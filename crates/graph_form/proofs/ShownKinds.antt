@@ -7,6 +7,7 @@ use Rattle.dns_data.specs.Name.{Labels, name_eq}
 use Rattle.dns_data.specs.declared.rr_type.RrType.{RrType}
 use Rattle.dns_data.proofs.Membership.{none_in_nil, has_first, has_later, first_or_later}
 use Rattle.dns_data.proofs.Names.{name_eq_decides}
+use Rattle.net_model.proofs.WalkEnds.{item}
 use Rattle.net_model.specs.Shown.{Refers, EndsBehind, ShowsBlackhole}
 use Rattle.net_model.specs.Step.{Setting, next}
 use Rattle.net_model.specs.Walk.{led_on}
@@ -26,7 +27,7 @@ use Rattle.graph_form.specs.GraphOf.{IsGraphOf}
 use Rattle.graph_form.specs.declared.node.Branch.TheVariants.{End}
 use Rattle.graph_form.specs.declared.node.Node.{Node}
 use Rattle.graph_form.proofs.EndHops.{is_stopped, StopsBehindHop, next_stops}
-use Rattle.graph_form.proofs.NoCircle.{at_place, told_step}
+use Rattle.graph_form.proofs.NoCircle.{told_step}
 use Rattle.graph_form.proofs.TakenPaths.{ended, path_parts, IsRest, Tells}
 
 -- ---- what is equal
@@ -224,7 +225,7 @@ module _ (graph : PlainGraph) (rtype : RrType) where
     pub stopped_behind : (at number : ℕ) (node : Node) (leaf : Leaf) → HasBranch graph rtype at number node (End None leaf) → is_stopped leaf ≡ true → ⊥
     stopped_behind at number node leaf has stopped =
         let told = told_step setting query graph rtype is at number node (End None leaf) has in
-        let branch = at_place StopsBehindHop (next setting rtype node.state) number told.0 (next_stops setting node.state rtype) told.1 in
+        let branch = item StopsBehindHop (next setting rtype node.state) number told.0 (next_stops setting node.state rtype) told.1 in
         let none : is_stopped leaf ≡ false = subst StopsBehindHop told.2 branch in
         true≢false (sym stopped ∙ none)
 

@@ -1,18 +1,11 @@
 -- The part of a class tree at or below a name has one size. That at or below the root is the size of the whole tree.
-use Rattle.std.proofs.Common.{◌≡◌, ℕ, ◌+◌, List, [], length, refl, sym, ap, ◌∙◌, subst}
+use Rattle.std.proofs.Common.{◌≡◌, ℕ, ◌+◌, List, [], length, sym, ap, ◌∙◌, subst}
 use Rattle.dns_data.specs.Name.{Labels, name_cmp}
 use Rattle.dns_data.proofs.NameOrder.{names_total}
 use Rattle.dns_data.proofs.OrderedLists.{same_rising}
 use Rattle.net_model.specs.Reading.{Ground}
-use Rattle.net_model.specs.Tree.{IsClassTree, IsTreePart, AreBelowClasses}
-use Rattle.net_model.proofs.TreeParts.{whole_part}
+use Rattle.net_model.specs.Tree.{IsTreePart, AreBelowClasses}
 use Rattle.graph_form.specs.Report.{IsTreeSize}
-
--- the names of the tree and the classes below them are those at or below the root
-pub whole_size : (ground : Ground) (tree below : List Labels) → IsClassTree ground tree → AreBelowClasses ground tree below
-    → IsTreeSize ground [] (length tree) (length tree + length below)
-whole_size ground tree below is are =
-    record { part = tree; below = below; is_part = whole_part ground tree is; are_below = are; counts_names = refl; counts_classes = refl }
 
 module _ (ground : Ground) where
   -- the part of the class tree at or below a name is one list

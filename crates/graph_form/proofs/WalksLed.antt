@@ -1,18 +1,16 @@
 -- A walk of a path, made state by state.
-use Rattle.std.proofs.Common.{◌≡◌, ℕ, suc, ◌+◌, ◌<◌, ◌≤◌, Bool, List, [], ◌∷◌, ◌++◌, length, drop, get_or, drop-cons, refl, sym, ap, ◌∙◌, Some, None, arith, append_assoc}
+use Rattle.std.proofs.Common.{◌≡◌, ℕ, suc, ◌+◌, ◌<◌, ◌≤◌, List, [], ◌∷◌, ◌++◌, length, drop, get_or, drop-cons, refl, sym, ap, ◌∙◌, Some, None, arith, append_assoc}
 use Rattle.std.proofs.Math.ListN.{drop_of_length-le}
 use Rattle.std.specs.Prelude.{Option, option_map, if◌then◌else◌}
-use Rattle.std.specs.Option.{option_to_list}
 use Rattle.dns_data.specs.declared.rr_type.RrType.{RrType}
 use Rattle.net_model.specs.Walk.{led_on}
 use Rattle.net_model.specs.declared.walk.Hop.{Hop}
-use Rattle.net_model.specs.declared.walk.Leaf.{Leaf}
 use Rattle.net_model.specs.declared.walk.State.{State}
 use Rattle.net_model.specs.declared.walk.Walk.{Walk}
 use Rattle.graph_form.specs.Graph.{HasBranch, PlainGraph, path_from}
-use Rattle.graph_form.specs.declared.node.Branch.TheVariants.{Go, End}
+use Rattle.graph_form.specs.declared.node.Branch.TheVariants.{Go}
 use Rattle.graph_form.specs.declared.node.Node.{Node}
-use Rattle.graph_form.proofs.TakenPaths.{ended, path_by, not_last}
+use Rattle.graph_form.proofs.TakenPaths.{path_by}
 
 -- the walk behind states and hops
 abbrev pub behind : List State → List Hop → Walk → Walk
@@ -53,25 +51,3 @@ module _ (graph : PlainGraph) (rtype : RrType) (whole : Option Walk) (states : L
         by_first
         ∙ (ap (option_map (behind states hops)) (path_by graph rtype (drop (i + 1) numbers) at number node (Go hop to) has)
         ∙ behind_more states hops node.state hop (path_from graph rtype (drop (i + 1) numbers) to))
-
-    -- if a node has no branch with the next number, the numbers lead along no walk
-    pub led_nowhere : ((ns : List ℕ) → path_from graph rtype (number ∷ ns) at ≡ None) → whole ≡ None
-    led_nowhere none = by_first ∙ ap (option_map (behind states hops)) (none (drop (i + 1) numbers))
-
-    -- if the branch with the last number ends, the walk ends there
-    pub led_to_end : (node : Node) (hop : Option Hop) (leaf : Leaf) → HasBranch graph rtype at number node (End hop leaf) → length numbers ≤ i + 1
-        → whole ≡ Some (record { states = states ++ node.state ∷ []; hops = hops ++ option_to_list hop; leaf = leaf })
-    led_to_end node hop leaf has last =
-        by_first
-        ∙ (ap (λ ns. option_map (behind states hops) (path_from graph rtype (number ∷ ns) at)) (none_from numbers (i + 1) last)
-        ∙ ap (option_map (behind states hops)) (path_by graph rtype [] at number node (End hop leaf) has))
-
-    -- if a branch ends before the last number, the numbers lead along no walk
-    pub led_too_far : (node : Node) (hop : Option Hop) (leaf : Leaf) → HasBranch graph rtype at number node (End hop leaf) → i + 1 < length numbers → whole ≡ None
-    led_too_far node hop leaf has more =
-        let next = get_or numbers (i + 1) 0 in
-        let rest : drop (i + 1) numbers ≡ next ∷ drop ((i + 1) + 1) numbers = from_place numbers (i + 1) next more refl in
-        by_first
-        ∙ (ap (λ ns. option_map (behind states hops) (path_from graph rtype (number ∷ ns) at)) rest
-        ∙ (ap (option_map (behind states hops)) (path_by graph rtype (next ∷ drop ((i + 1) + 1) numbers) at number node (End hop leaf) has)
-        ∙ ap (λ (last : Bool). option_map (behind states hops) (if last then Some (ended node.state hop leaf) else None)) (not_last next (drop ((i + 1) + 1) numbers))))

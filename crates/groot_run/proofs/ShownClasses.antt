@@ -14,7 +14,7 @@ use Rattle.net_model.specs.declared.class.Class.{Class}
 use Rattle.net_model.specs.Step.{Setting, following}
 use Rattle.query_classes.specs.ClassList.{ListedClass, class_below, classes_of_row, classes_of_rows}
 use Rattle.query_classes.specs.declared.tree.ClassRow.{ClassRow}
-use Rattle.query_verdicts.specs.Queries.{LimitedQueries, IsLeastGraph, Passes, ServerPasses}
+use Rattle.query_verdicts.specs.Queries.{LimitedQueries, IsLeastGraph, Passes}
 use Rattle.site_checks.specs.Ends.{AreEnds}
 use Rattle.site_checks.specs.Shown.{HasSeen}
 use Rattle.site_checks.specs.declared.views.View.{View}
@@ -204,11 +204,6 @@ module _ (queries : LimitedQueries) where
         | inl same ↦ subst (HasEnds queries) same has
         | inr none ↦ absurd (none_in_nil other none)
       ]
-
-    -- if the name of some server passes, checks have nothing to be shown of a class
-    pub shown_beside : (class : Class) (query : Labels) (all : List B) → ServerPasses queries → (Passes queries query → ⊥)
-        → AreShown name held step queries (record { class = class; representative = query } ∷ []) all all
-    shown_beside class query all passes few = record { none_passes = none_of_one class query few; shown = λ clear. absurd (clear passes) }
 
     -- ---- of the classes of a row
 

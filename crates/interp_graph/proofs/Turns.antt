@@ -1,5 +1,5 @@
 -- The nodes at which types wait, one after another.
-use Rattle.std.proofs.Common.{◌≡◌, ℕ, ◌+◌, ◌-◌, ◌<◌, ◌≤◌, List, [], ◌∷◌, ◌++◌, length, refl, sym, ap, ◌∙◌, subst, inl, inr, arith, length-append}
+use Rattle.std.proofs.Common.{◌≡◌, ℕ, ◌+◌, ◌-◌, ◌<◌, ◌≤◌, List, [], ◌∷◌, ◌++◌, length, sym, ap, ◌∙◌, subst, inl, inr, arith, length-append}
 use Rattle.std.specs.Prelude.{◌⊎◌, Contains}
 use Rattle.std.proofs.lemmas.List.Elements.{Contains-append_cases}
 use Rattle.dns_data.specs.declared.rr_type.RrType.{RrType}
@@ -9,7 +9,7 @@ use Rattle.net_model.specs.declared.walk.State.{State}
 use Rattle.interp_graph.specs.Drafts.{AreDrafts, Grows, Draft}
 use Rattle.interp_graph.specs.Growing.{IsSoundSoFar, AreToFollow, IsRid, Waits, Advances, HasMoreComing, drafts_in}
 use Rattle.interp_graph.specs.declared.growing.GrowingGraph.{GrowingGraph}
-use Rattle.interp_graph.proofs.Drafts.{grows_not, grows_twice}
+use Rattle.interp_graph.proofs.Drafts.{grows_twice}
 
 -- what holds before each turn in which a node is taken: drafts grew, each at which a type waits is to be followed, and
 -- in walks of the kind they stay right
@@ -21,11 +21,6 @@ pub record TurnsSoFar (IsSo : Setting → List State → Type 0) (before now : G
   pub drafts : (setting : Setting) (begin : List State) → IsSo setting begin → AreDrafts setting begin (drafts_in before) → AreDrafts setting begin (drafts_in now)
 
 module _ (IsSo : Setting → List State → Type 0) where
-  -- before the first node is taken no turn is done, if each draft at which a type waits is to be followed
-  pub turns_begin : (before : GrowingGraph) → IsSoundSoFar before → AreToFollow before → TurnsSoFar IsSo before before
-  turns_begin before sound listed =
-      record { sound = sound; limit = refl; listed = listed; grows = grows_not (drafts_in before); drafts = λ setting begin so are. are }
-
   -- a node is taken
   module _ (before now taken : GrowingGraph) (at : ℕ) (so : TurnsSoFar IsSo before now) (stack : now.stack.items ≡ taken.stack.items ++ at ∷ [])
       (drafts_same : (drafts_in taken) ≡ (drafts_in now)) (limit_same : taken.limit ≡ now.limit) (pairs_same : taken.pairs ≡ now.pairs) where

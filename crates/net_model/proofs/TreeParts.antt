@@ -14,14 +14,3 @@ whole_part ground names tree =
         (λ is. (tree.all name).1 (is.named, is.is_name)),
       );
     }
-
--- the part of the class tree at or below the root is the class tree
-pub part_whole : (ground : Ground) (names : List Labels) → IsTreePart ground [] names → IsClassTree ground names
-part_whole ground names part =
-    record {
-      ordered = part.ordered;
-      all = λ name. (
-        (λ has. (let is = (part.all name).0 has in (is.named, is.is_name))),
-        (λ is. (part.all name).1 (record { named = is.0; is_name = is.1; within = refl })),
-      );
-    }

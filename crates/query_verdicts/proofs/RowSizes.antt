@@ -4,7 +4,6 @@ use Rattle.std.specs.declared.cmp.Ordering.TheVariants.{Less}
 use Rattle.std.proofs.lemmas.List.{length-map}
 use Rattle.std.proofs.lemmas.List.Elements.{All-contains}
 use Rattle.std.proofs.lemmas.List.Kept.{AllPairs-filter}
-use Rattle.std.proofs.lemmas.List.Sums.{count_by-le-length, length-filter}
 use Rattle.dns_data.specs.Name.{Labels, name_cmp}
 use Rattle.dns_data.proofs.Membership.{filter_has, from_filter, from_map, map_has, pairs_of_images}
 use Rattle.graph_form.specs.Report.{IsTreeSize}
@@ -13,10 +12,6 @@ use Rattle.net_model.specs.Class.{IsRepresentative}
 use Rattle.net_model.specs.Reading.{Ground}
 use Rattle.net_model.specs.Tree.{AreBelowClasses}
 use Rattle.query_verdicts.specs.TreeVerdicts.{AreTreeRows, IsVerdictAt, IsVerdictBelow, TreeRow, below_count, has_below, row_names}
-
--- no more classes below names than names
-pub below_within : {W C : Type 0} (rows : List (TreeRow W C)) → below_count rows ≤ length rows
-below_within rows = subst (λ (n : ℕ). n ≤ length rows) (sym (length-filter has_below rows)) (count_by-le-length has_below rows)
 
 module _ {W C : Type 0} {ground : Ground} {above : Labels} {IsTold : Labels → C → Type 0} (rows : List (TreeRow W C)) (are : AreTreeRows ground above IsTold rows) where
   -- the rows with a class below

@@ -1,5 +1,5 @@
 -- The walks of an entry, in its value.
-use Rattle.std.proofs.Common.{◌≡◌, List, [], ◌∷◌, map, codes, Some, None, refl, sym, ap, ◌∙◌, subst, inl, inr}
+use Rattle.std.proofs.Common.{◌≡◌, List, [], ◌∷◌, map, codes, Some, refl, sym, ap, ◌∙◌, subst, inl, inr}
 use Rattle.std.specs.Prelude.{◌⊎◌, Contains}
 use Rattle.dns_data.specs.Name.{Labels}
 use Rattle.dns_data.specs.declared.rr_type.RrType.{RrType}
@@ -93,13 +93,6 @@ module _ (setting : Setting) (query : Labels) (rtype : RrType) (all : List Walk)
     on (walk ∷ other ∷ third ∷ walks) among shown e = absurd cc
 
   -- ---- another number
-
-  -- an entry without a list at `walks` is shown by no walks
-  pub no_steps : list_at (codes "walks") value ≡ None → ByWalks setting query rtype all value → ⊥
-  no_steps at by =
-      let same : None ≡ Some (map walk_value by.walks) =
-      sym at ∙ ap (list_at (codes "walks")) by.shown.is ∙ steps_of (entry_with query rtype (first_repeats by.walks) by.walks by.shown.fault) in
-      cc
 
   -- walks that show a fault are one or two
   one_or_two : (walks : List Walk) (fault : Fault) → WalksShow (with_sets setting) walks fault

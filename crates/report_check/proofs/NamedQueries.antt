@@ -1,5 +1,6 @@
 -- The query and the type that an entry's value names are single, and those of the entry.
 use Rattle.std.proofs.Common.{◌≡◌, ℕ, List, [], Option, Some, Result, Ok, Err, refl, sym, ap, ◌∙◌}
+use Rattle.dns_data.proofs.DataTexts.{name_same}
 use Rattle.dns_data.specs.Name.{Labels, IsName}
 use Rattle.dns_data.specs.RrType.{type_of_word, word_of}
 use Rattle.dns_data.specs.Spelling.{name_of_text, name_text}
@@ -12,15 +13,9 @@ use Rattle.report_json.specs.Report.{entry_value}
 use Rattle.serde_json.specs.Data.{Data, string}
 use Rattle.report_check.specs.Right.{NamesQuery}
 
--- a text is read as one name
+-- names to which one text is read are equal
 one_read : (one other : Labels) (read : Result Labels NameFault) → read ≡ Ok one → read ≡ Ok other → one ≡ other
 one_read one other read is also = cc
-
--- names with the same text are equal
-pub one_name : (one other : Labels) → IsName one → IsName other → name_text one ≡ name_text other → one ≡ other
-one_name one other is also e =
-    one_read one other (name_of_text (name_text one) []) (text_reads_back one [] is)
-    (ap (λ (text : List ℕ). name_of_text text []) e ∙ text_reads_back other [] also)
 
 -- a type is read back from its word
 word_back : (rtype : RrType) → type_of_word (word_of rtype) ≡ Some rtype
@@ -64,7 +59,7 @@ one_text one other found is also = cc
 pub one_query : (value : Data) (query other : Labels) (rtype with_type : RrType) → NamesQuery value query rtype → NamesQuery value other with_type
     → (query ≡ other) × (rtype ≡ with_type)
 one_query value query other rtype with_type is also = (
-  one_name query other is.is_name also.is_name (one_text (name_text query) (name_text other) _ is.query_is also.query_is),
+  name_same query other is.is_name also.is_name (one_text (name_text query) (name_text other) _ is.query_is also.query_is),
   one_type rtype with_type (one_text (word_of rtype) (word_of with_type) _ is.type_is also.type_is),
 )
 

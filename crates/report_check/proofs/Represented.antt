@@ -1,11 +1,10 @@
 -- Names that represent their class.
-use Rattle.std.proofs.Common.{◌≡◌, ◌↔◌, sym, subst}
+use Rattle.std.proofs.Common.{◌≡◌, ◌↔◌, subst}
 use Rattle.dns_data.specs.Name.{Labels}
 use Rattle.label_graph.specs.Pairs.{AreSame}
-use Rattle.net_model.specs.Class.{class_name, IsClassOf, IsRepresentative}
-use Rattle.net_model.specs.Reading.{Ground, IsNamed}
+use Rattle.net_model.specs.Class.{IsClassOf, IsRepresentative}
+use Rattle.net_model.specs.Reading.{Ground}
 use Rattle.net_model.specs.declared.class.Class.{Class}
-use Rattle.net_model.specs.declared.class.Class.TheVariants.{Exact, Below}
 use Rattle.net_model.proofs.OneClass.{one_class}
 use Rattle.net_model.proofs.TrialOrder.{one_representative}
 use Rattle.query_classes.proofs.SameGrounds.{class_same, represents_same, same_back}
@@ -13,11 +12,6 @@ use Rattle.query_classes.proofs.SameGrounds.{class_same, represents_same, same_b
 -- the name represents its class
 abbrev pub StandsForIts : Ground → Labels → Type 0
 StandsForIts ground query = (class : Class) × IsClassOf ground query class × IsRepresentative ground class query
-
--- the class of a name is that of a named name
-pub class_named : (ground : Ground) (query : Labels) (class : Class) → IsClassOf ground query class → IsNamed ground (class_name class)
-class_named ground query (Exact alone) is = subst (IsNamed ground) (sym is.0) is.1
-class_named ground query (Below above) is = is.1.named
 
 -- the representative of a query's class is the query exactly if the query represents its class
 pub stands_told : (ground : Ground) (query : Labels) (class : Class) → IsClassOf ground query class → (name : Labels) → IsRepresentative ground class name

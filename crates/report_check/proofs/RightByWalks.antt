@@ -83,10 +83,6 @@ module _ (setting : Setting) (in_force : IsInForce setting.config setting.rewrit
 
   -- ---- how many walks there are
 
-  -- where the query that an entry names has too many walks, the entry passes the limit of walks
-  pub walks_pass : HasMoreWalks setting query rtype most_walks_followed → PassesWalks setting.config setting.rewrites value
-  walks_pass more = record { query = query; rtype = rtype; names = names; followed = setting.followed; in_force = in_force; more = more }
-
   -- where the query that an entry names hasn't too many walks, the entry doesn't pass the limit of walks
   pub walks_few : (HasMoreWalks setting query rtype most_walks_followed → ⊥) → PassesWalks setting.config setting.rewrites value → ⊥
   walks_few few passes =
@@ -96,13 +92,3 @@ module _ (setting : Setting) (in_force : IsInForce setting.config setting.rewrit
       (subst (λ (names : List Labels). HasMoreWalks (following setting.config setting.rewrites names) query rtype most_walks_followed) set
       (subst (λ (t : RrType). HasMoreWalks (following setting.config setting.rewrites passes.followed) query t most_walks_followed) same.1
       (subst (λ (q : Labels). HasMoreWalks (following setting.config setting.rewrites passes.followed) q passes.rtype most_walks_followed) same.0 passes.more)))
-
--- an entry that names no query isn't right, and has no walks
-pub unnamed_wrong : (setting : Setting) (value : Data) → ((query : Labels) (rtype : RrType) → NamesQuery value query rtype → ⊥) → IsRight setting.config setting.rewrites value → ⊥
-unnamed_wrong setting value none right =
-    none right.entry.query right.entry.seen.rtype
-    (subst (λ (v : Data). NamesQuery v right.entry.query right.entry.seen.rtype) (sym right.is) (entry_names right.entry right.is_name))
-
--- an entry that names no query doesn't pass the limit of walks
-pub unnamed_few : (setting : Setting) (value : Data) → ((query : Labels) (rtype : RrType) → NamesQuery value query rtype → ⊥) → PassesWalks setting.config setting.rewrites value → ⊥
-unnamed_few setting value none passes = none passes.query passes.rtype passes.names

@@ -141,10 +141,6 @@ module _ (graph : PlainGraph) (rtype : RrType) where
         differ = tells_another one other tells_other;
       }
 
-  -- if no end of the graph is authoritative, no two authoritative ends differ
-  pub none_differ : ((leaf : Leaf) → EndsIn graph rtype leaf → is_other leaves.Outside leaf ≡ false) → Differ graph rtype → ⊥
-  none_differ none differ = true≢false (sym (tells_other_than_none differ.one differ.tells_one) ∙ none differ.one differ.ends_in_one)
-
   -- if all authoritative ends tell the same as one, no two differ
   pub all_same : (first : Leaf) → ((leaf : Leaf) → EndsIn graph rtype leaf → is_other first leaf ≡ false) → Differ graph rtype → ⊥
   all_same first none differ = by (answer_eq first differ.one) refl where

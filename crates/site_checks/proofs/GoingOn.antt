@@ -12,7 +12,7 @@ use Rattle.graph_form.specs.GraphOf.{HasState, IsGraphOf}
 use Rattle.graph_form.specs.declared.node.Branch.{Branch}
 use Rattle.graph_form.specs.declared.node.Branch.TheVariants.{Go, End}
 use Rattle.graph_form.specs.declared.node.Node.{Node}
-use Rattle.graph_form.proofs.NoCircle.{Earlier, at_place, told_step}
+use Rattle.graph_form.proofs.NoCircle.{Earlier, told_step}
 use Rattle.graph_form.proofs.Paths.{same_item}
 use Rattle.graph_form.proofs.Places.{PairAt, pair_at, item_there, place_of_item}
 use Rattle.net_model.specs.Step.{Setting, arrived, start, next}
@@ -20,6 +20,7 @@ use Rattle.net_model.specs.declared.walk.Hop.{Hop}
 use Rattle.net_model.specs.declared.walk.Hop.TheVariants.{Refer, Rewrite}
 use Rattle.net_model.specs.declared.walk.State.{State}
 use Rattle.net_model.proofs.StepBounds.{IsNear, StepsOn, BranchStepsOn, next_steps}
+use Rattle.net_model.proofs.WalkEnds.{item}
 use Rattle.site_checks.specs.PathEnds.{IsMet, comes_before, ends_by, ends_from, ends_within, left_after, node_ends, nodes_after}
 use Rattle.site_checks.specs.declared.views.TypedEnd.{TypedEnd}
 use Rattle.site_checks.proofs.NodesAfter.{is_before, fewer_after, fewer_than_all}
@@ -69,7 +70,7 @@ later_node : (setting : Setting) (query : Labels) (graph : PlainGraph) (rtype : 
     → HasBranch graph rtype at number node (Go hop to) → IsNear setting node.state → LaterNode setting graph node.state to
 later_node setting query graph rtype is at number to hop node has near =
     let told = told_step setting query graph rtype is at number node (Go hop to) has in
-    let branch = at_place (BranchStepsOn setting node.state) (next setting rtype node.state) number told.0 (next_steps setting node.state rtype near) told.1 in
+    let branch = item (BranchStepsOn setting node.state) (next setting rtype node.state) number told.0 (next_steps setting node.state rtype near) told.1 in
     let step : StepsOn setting node.state hop told.2.0 = subst (BranchStepsOn setting node.state) told.2.1 branch in
     let stands : HasState graph to told.2.0 = told.2.2 in
     record {

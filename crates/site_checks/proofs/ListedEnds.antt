@@ -11,7 +11,6 @@ use Rattle.dns_data.specs.Label.{label_cmp}
 use Rattle.dns_data.specs.Name.{Labels, name_cmp, name_eq}
 use Rattle.dns_data.proofs.Names.{name_eq_decides}
 use Rattle.dns_data.proofs.Searches.{any_has, from_any, same_truth}
-use Rattle.graph_form.proofs.ShownKinds.{name_itself}
 use Rattle.dns_data.specs.Listed.{places_of}
 use Rattle.site_checks.specs.EndPlaces.{ListsPlaces, is_end_at}
 use Rattle.site_checks.specs.Ends.{end_eq}
@@ -96,10 +95,6 @@ module _ (name : Labels) (listed : List ℕ) (old new : Places) (is : (other : L
       by : (b : Bool) → unwrap_or (cond b (Some listed) (map.get name_cmp old other)) [] ≡ cond b listed (places_of old other)
       by true = refl
       by false = refl
-
-  -- places that are listed for a server stand in the map under its name
-  pub listed_there : (place : ℕ) → Contains listed place → Contains (places_of new name) place
-  listed_there place has = subst (λ (places : List ℕ). Contains places place) (sym (placed name true (name_itself name))) has
 
   -- what was listed stays when a server's places are replaced by more places
   pub listed_stays : ((place : ℕ) → Contains (places_of old name) place → Contains listed place)

@@ -80,23 +80,9 @@ pub compared_by_data : (one other : AnswerOwners) (rtype : RrType) (found others
 compared_by_data one other rtype found others is also =
     same_lists found others ∙ data_told found others ∙ compared_found one other rtype (Some found) (Some others) is also
 
--- two answers without an owner are equal
-pub both_nothing : (one other : AnswerOwners) (rtype : RrType) → FoundWith one rtype None → FoundWith other rtype None → true ≡ answer_eq (leaf_of one rtype) (leaf_of other rtype)
-both_nothing one other rtype is also = compared_found one other rtype None None is also
-
 data_or_nothing : (found : List Rdata) → (answer_eq (leaf_with found) NxDomain ≡ false) × (answer_eq NxDomain (leaf_with found) ≡ false)
 data_or_nothing [] = (refl, refl)
 data_or_nothing (first ∷ rest) = (refl, refl)
-
--- answers differ if only the first one has no owner
-pub first_nothing : (one other : AnswerOwners) (rtype : RrType) (others : List Rdata) → FoundWith one rtype None → FoundWith other rtype (Some others)
-    → false ≡ answer_eq (leaf_of one rtype) (leaf_of other rtype)
-first_nothing one other rtype others is also = sym (data_or_nothing others).1 ∙ compared_found one other rtype None (Some others) is also
-
--- answers differ if only the second one has no owner
-pub second_nothing : (one other : AnswerOwners) (rtype : RrType) (found : List Rdata) → FoundWith one rtype (Some found) → FoundWith other rtype None
-    → false ≡ answer_eq (leaf_of one rtype) (leaf_of other rtype)
-second_nothing one other rtype found is also = sym (data_or_nothing found).0 ∙ compared_found one other rtype (Some found) None is also
 
 -- ---- whether ends are alike
 
@@ -156,28 +142,6 @@ abbrev pub with_rewrites : StraightEnds → ℕ → Bool → StraightEnds
 with_rewrites ends rewrites none_below = record ends { rewrites = rewrites; below = false; unnamed_below = ends.unnamed_below && none_below }
 
 module _ (ends : StraightEnds) (answering : AnswerOwners) (rewrites more : ℕ) (none_below : Bool) (kept : ends.rewrites ≤ more) (reached : rewrites ≤ more) where
-  -- an answer that is equal to that of the ends with each type is put to them
-  pub put_same : (before : AnswerOwners) → ends.answer ≡ Some before → ((rtype : RrType) → leaf_of before rtype ≡ leaf_of answering rtype)
-      → AnswerIsPut ends answering rewrites none_below (with_rewrites ends more none_below)
-  put_same before is same =
-      record {
-        still = record { rewrites = kept; outcomes = still };
-        behind = reached;
-        there = λ rtype.
-            ap (option_map (λ (one : AnswerOwners). leaf_of one rtype)) is ∙ ap (λ (leaf : Leaf). Some leaf) (same rtype);
-        only = λ rtype outcome told. inl (back rtype outcome told);
-        alone = refl;
-        unnamed = refl;
-      }
-    where
-      still : (rtype : RrType) (outcome : Option Leaf) → IsOutcomeOf ends rtype outcome → IsOutcomeOf (with_rewrites ends more none_below) rtype outcome
-      still rtype None told = told
-      still rtype (Some leaf) told = told
-
-      back : (rtype : RrType) (outcome : Option Leaf) → IsOutcomeOf (with_rewrites ends more none_below) rtype outcome → IsOutcomeOf ends rtype outcome
-      back rtype None told = told
-      back rtype (Some leaf) told = told
-
   -- an answer is put to ends that have none yet
   pub put_first : ends.answer ≡ None → AnswerIsPut ends answering rewrites none_below (record (with_rewrites ends more none_below) { answer = Some answering })
   put_first none =

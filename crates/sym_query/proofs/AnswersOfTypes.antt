@@ -20,16 +20,6 @@ use Rattle.sym_query.specs.declared.typed_found.TypedFound.{TypedFound}
 use Rattle.dns_data.proofs.Membership.{pairs_more}
 
 module _ (zone : Zone) (name : SymName) (decides : Deciding) where
-  -- no answers are those to no type
-  pub none_are : (among : RrType → Bool) → ((rtype : RrType) → among rtype ≡ false) → AreAnswers zone name decides among []
-  none_are among none = record {
-    together = λ rtype. sym (none rtype);
-    apart = λ i j d before within. absurd (omega arith);
-    some = tt;
-    found = tt;
-    open_tail = tt;
-  }
-
   -- one answer to all types that are asked for is the answers to them
   pub one_are : (asked : List Bool) (found : Found) (answers : List TypedFound) → IsOneAnswer name asked found answers → HasSome asked
       → ((rtype : RrType) → has_bit asked rtype ≡ true → found ≡ answered zone (whole name) rtype decides)

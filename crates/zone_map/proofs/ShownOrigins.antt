@@ -14,14 +14,9 @@ use Rattle.dns_data.proofs.Membership.{none_in_nil, first_or_later, has_first}
 use Rattle.dns_data.proofs.Names.{name_eq_decides}
 use Rattle.dns_data.proofs.Searches.{from_any}
 use Rattle.dns_data.proofs.SeenItems.{or-from_cond}
-use Rattle.graph_form.specs.Graph.{PlainGraph}
-use Rattle.graph_form.specs.GraphOf.{IsGraphOf}
-use Rattle.net_model.specs.declared.class.Class.TheVariants.{Exact}
-use Rattle.net_model.specs.Step.{Setting, following}
 use Rattle.config_load.specs.declared.loaded.RowFiles.{RowFiles}
-use Rattle.query_verdicts.specs.Queries.{IsLeastGraph, LimitedQueries, Passes}
+use Rattle.query_verdicts.specs.Queries.{LimitedQueries, Passes}
 use Rattle.run_endings.specs.declared.ending.Ending.{Ending}
-use Rattle.site_checks.specs.Ends.{AreEnds}
 use Rattle.site_checks.specs.declared.views.View.{View}
 use Rattle.zone_map.specs.Limits.{NoOriginPasses}
 use Rattle.zone_map.specs.ShownOrigins.{EndsAmongRows, EndsAt, HasSeenNew, HasSeenOrigin, HasSeenOrigins, IsViewOf, is_shown}
@@ -59,22 +54,6 @@ Step = List (List ℕ) → View → List (List ℕ)
 
 module _ (queries : LimitedQueries) where
   -- ---- what a check has seen
-
-  -- a check was shown the view of one origin, by the graph of its walks
-  pub seen_one : (step : Step) (origin : Labels) (graph : PlainGraph) (view : View) (before after : List (List ℕ)) → IsLeastGraph queries.config queries.rewrites origin graph
-      → (Passes queries origin → ⊥) → view.class ≡ Exact origin → ((setting : Setting) → IsGraphOf setting origin graph → AreEnds setting origin view.ends)
-      → after ≡ step before view → HasSeenOrigin step queries origin before after
-  seen_one step origin graph view before after is few of_class ends holds = record {
-    few = few;
-    view = view;
-    is_view = record {
-      is_class = of_class;
-      followed = is.followed;
-      in_force = is.in_force;
-      ends = ends (following queries.config queries.rewrites is.followed) is.is_graph;
-    };
-    holds = holds;
-  }
 
   -- a check was shown the views of no rows' origins
   pub seen_none : (step : Step) (words : List (List ℕ)) → HasSeenOrigins step queries [] words words

@@ -14,10 +14,8 @@ use Rattle.net_model.specs.Lookup.{Deciding, ByCut, ByRedirection, ByRecords, By
 use Rattle.net_model.specs.Nearest.{nearest_of}
 use Rattle.net_model.specs.Order.{in_order}
 use Rattle.net_model.specs.Step.{Branch, Go, End, Setting, after_lookup, in_zone, next, start}
-use Rattle.net_model.specs.Tree.{HasMoreThan}
 use Rattle.net_model.specs.Walk.{branched, led_on, walk_along, walk_from}
 use Rattle.net_model.specs.Zone.{data_at, data_cmp, targets_at}
-use Rattle.plain_resolver.specs.Passed.{HasMoreWalks}
 
 -- branches are the same, or each are one end
 abbrev AreAlike : List Branch → List Branch → Type 0
@@ -94,7 +92,3 @@ module _ (setting : Setting) where
   along : (query : Labels) (numbers : List ℕ) → is_some (walk_along setting query types.A numbers) ≡ is_some (walk_along setting query types.Aaaa numbers)
   along query [] = refl
   along query (number ∷ numbers) = by_start numbers (slice_get (start setting.config query) number)
-
-  -- a query has more walks than so many of both types, or of neither
-  pub as_many_walks : (query : Labels) (most : ℕ) → HasMoreWalks setting query types.A most ≡ HasMoreWalks setting query types.Aaaa most
-  as_many_walks query most = λ i. HasMoreThan (λ (numbers : List ℕ). along query numbers i ≡ true) most

@@ -11,9 +11,9 @@ use Rattle.net_model.specs.Prefix.{shortest}
 use Rattle.net_model.specs.Zone.{exists_in, owns}
 use Rattle.dns_data.proofs.NameFronts.{is_prefix_tells, is_prefix_told, begins_itself}
 use Rattle.dns_data.proofs.Names.{name_eq_decides}
+use Rattle.net_model.proofs.Descent.{prefix_of_prefix}
 use Rattle.net_model.proofs.OpenTails.{zone_cut_above, closest_encloser_above, dname_owner_within, missing_decided}
 use Rattle.zone_tree.specs.FirstDecider.{is_cut, redirects, Undecided}
-use Rattle.zone_tree.proofs.Existing.{begins_along}
 use Rattle.zone_tree.proofs.Prefixes.{longest_itself, shortest_alone, shortest_next, found_beyond, found_above}
 
 -- a name is the closest encloser of those below it, if it exists and the next label makes none that does
@@ -210,7 +210,7 @@ module _ (zone : Zone) (above : Labels) (label : List ℕ) (rest : Labels) (so_f
   -- if the next front of the name exists and neither cuts nor redirects, nothing has decided up to it
   pub goes_on : exists_in zone next ≡ true → owns zone next types.Ns ≡ false → (length next < length name → owns zone next types.Dname ≡ false) → Undecided zone name next
   goes_on exists uncut other = record {
-    inside = is_prefix_told zone.origin next (begins_along zone.origin above next (is_prefix_tells zone.origin above so_far.inside) (label ∷ [], refl));
+    inside = is_prefix_told zone.origin next (prefix_of_prefix zone.origin above next (is_prefix_tells zone.origin above so_far.inside) (label ∷ [], refl));
     exists = exists;
     no_cut = uncut_next uncut;
     no_redirection = redirection_next ∙ ap (λ (b : Bool). cond b (Some next) None) (redirects_none zone name next other);

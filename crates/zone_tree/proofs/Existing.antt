@@ -1,10 +1,11 @@
 -- The names of a tree are those that exist in its zone.
-use Rattle.std.proofs.Common.{◌≡◌, Bool, true, false, cond, ◌&&◌, List, [], ◌∷◌, ◌++◌, map, Contains, filter, IsPermutation, IsSorted, sym, refl, ap, ◌∙◌, subst, inl, inr, append_assoc, arith}
+use Rattle.std.proofs.Common.{◌≡◌, Bool, true, false, cond, ◌&&◌, List, [], ◌∷◌, ◌++◌, map, Contains, filter, IsPermutation, IsSorted, sym, refl, ap, ◌∙◌, subst, inl, inr, arith}
 use Rattle.std.specs.List.{list_any}
 use Rattle.std.proofs.lemmas.Bool.{and_parts, and_from, or_cases, or_left, or_right}
 use Rattle.std.proofs.lemmas.List.Sorted.{IsPermutation-sym, IsPermutation-map, Contains-permutation}
 use Rattle.dns_data.specs.Name.{Labels, name_eq, name_cmp, is_prefix}
 use Rattle.dns_data.specs.declared.rdata.Rr.{Rr}
+use Rattle.net_model.proofs.Descent.{prefix_of_prefix}
 use Rattle.net_model.specs.declared.config.Zone.{Zone}
 use Rattle.net_model.specs.Zone.{exists_in}
 use Rattle.zone_tree.specs.Names.{tree_after, AreExisting}
@@ -16,10 +17,6 @@ use Rattle.dns_data.proofs.Names.{name_eq_decides}
 use Rattle.dns_data.proofs.OrderedLists.{never_before_itself}
 use Rattle.dns_data.proofs.Searches.{from_any, any_has}
 use Rattle.zone_tree.proofs.SortedTree.{InOrder, in_order, tree_stands_after, rising_after, tree_after_has, from_tree_after, both_up_to}
-
--- a name begins each that a name below it begins
-pub begins_along : (a b c : Labels) → Begins a b → Begins b c → Begins a c
-begins_along a b c (x, e) (y, f) = (x ++ y, sym (append_assoc a x y) ∙ ap (λ (z : Labels). z ++ y) e ∙ f)
 
 -- a name doesn't stand behind one that it begins
 pub begins_up_to : (a b : Labels) → Begins a b → UpTo a b
@@ -95,7 +92,7 @@ module _ (zone : Zone) (owners : List Labels) (same : IsPermutation (filter (is_
             let found = from_any (λ (rr : Rr). is_prefix name rr.owner) zone.rrs parts.1 in
             let begins = is_prefix_tells name found.0.owner found.2 in
             let down = is_prefix_tells zone.origin name parts.0 in
-            let all : Begins zone.origin found.0.owner = begins_along zone.origin name found.0.owner down begins in
+            let all : Begins zone.origin found.0.owner = prefix_of_prefix zone.origin name found.0.owner down begins in
             elim (tree_after_has zone.origin owners found.0.owner name
             (Contains-permutation (filter (is_prefix zone.origin) (map (λ (rr : Rr). rr.owner) zone.rrs)) owners found.0.owner same
             (filter_has (is_prefix zone.origin) (map (λ (rr : Rr). rr.owner) zone.rrs) found.0.owner

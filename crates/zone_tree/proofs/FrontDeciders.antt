@@ -11,10 +11,9 @@ use Rattle.net_model.specs.declared.config.Zone.{Zone}
 use Rattle.net_model.specs.Lookup.{deciding, by_dname, ByCut}
 use Rattle.net_model.specs.Prefix.{shortest}
 use Rattle.net_model.specs.Zone.{exists_in, owns}
-use Rattle.net_model.proofs.Descent.{prefix_exists}
+use Rattle.net_model.proofs.Descent.{prefix_exists, prefix_of_prefix}
 use Rattle.zone_tree.specs.FirstDecider.{is_cut, decides_below, first_decider, redirects, Undecided}
 use Rattle.zone_tree.proofs.Descents.{up_to, as_long, origin_begins, origin_front, apex_redirects, apex_undecided, cut_at, redirection_at, goes_on_at}
-use Rattle.zone_tree.proofs.Existing.{begins_along}
 use Rattle.zone_tree.proofs.Prefixes.{begins_short, found_above, found_beyond, found_begins, found_passes, none_shorter, none_passes, none_of_stronger}
 
 -- a name that begins another is its front with as many labels
@@ -120,7 +119,7 @@ module _ (zone : Zone) (name : Labels) (inside : is_prefix zone.origin name ≡ 
 
         is_front : take (length first) name ≡ first
         is_front =
-            front_with first name (begins_along first front name (found_begins (decides_below zone) front first found) (drop k name, take-append-drop k name))
+            front_with first name (prefix_of_prefix first front name (found_begins (decides_below zone) front first found) (drop k name, take-append-drop k name))
 
         at_origin : length first ≤ length zone.origin → first ≡ zone.origin
         at_origin small =

@@ -45,14 +45,6 @@ up_to_other name other le differs = by (name_cmp name other) refl le where
   by Greater e h = absurd (true≢false h)
 
 module _ (name : Labels) where
-  -- the first records of a name are no more than the records
-  pub leading_within : (rrs : List Rr) → leading name rrs ≤ length rrs
-  leading_within [] = omega arith
-  leading_within (rr ∷ rrs) = by (name_eq rr.owner name) (leading_within rrs) where
-    by : (b : Bool) → leading name rrs ≤ length rrs → cond b (suc (leading name rrs)) 0 ≤ length (rr ∷ rrs)
-    by true rest = omega arith
-    by false rest = omega arith
-
   -- the records of a name are the first records, if the list stands in order from that name on
   pub data_leading : (rrs : List Rr) → InOrder name (map owner_of rrs) → data_of rrs name ≡ map rdata_of (take (leading name rrs) rrs)
   data_leading [] order = by (leading name []) where
