@@ -1,5 +1,5 @@
 -- Classes whose views are shown, some after others: what checks have seen, and where a run ends among them.
-use Rattle.std.proofs.Common.{◌≡◌, ℕ, suc, ◌+◌, ◌<◌, ◌≤◌, List, [], ◌∷◌, ◌++◌, append_assoc, append-nil, length, take, drop, get_or, Option, Some, None, refl, sym, ap, subst, ◌∙◌, inl, inr, arith}
+use Rattle.std.proofs.Common.{◌≡◌, ℕ, suc, ◌+◌, ◌<◌, ◌≤◌, List, [], ◌∷◌, ◌++◌, append_assoc, append-nil, length, take, drop, get_or, Option, Some, refl, sym, ap, subst, ◌∙◌, inl, inr, arith}
 use Rattle.std.specs.Prelude.{◌⊎◌, Contains}
 use Rattle.std.specs.List.{AllZip}
 use Rattle.std.proofs.Math.Seq.{drop-cons}
@@ -11,6 +11,7 @@ use Rattle.dns_data.proofs.Membership.{none_in_nil, first_or_later}
 use Rattle.graph_form.specs.Graph.{PlainGraph}
 use Rattle.graph_form.specs.GraphOf.{IsGraphOf}
 use Rattle.net_model.specs.declared.class.Class.{Class}
+use Rattle.net_model.specs.declared.class.Class.TheVariants.{Exact, Below}
 use Rattle.net_model.specs.Step.{Setting, following}
 use Rattle.query_classes.specs.ClassList.{ListedClass, class_below, classes_of_row, classes_of_rows}
 use Rattle.query_classes.specs.declared.tree.ClassRow.{ClassRow}
@@ -22,7 +23,7 @@ use Rattle.site_checks.proofs.Seen.{nothing_seen, more_seen}
 use Rattle.run_endings.specs.declared.ending.Ending.{Ending}
 use Rattle.run_endings.specs.Endings.{no_memory}
 use Rattle.groot_run.specs.Outcome.{too_many_states}
-use Rattle.groot_run.specs.ShownClasses.{NoListedPasses, exact_class, below_class, class_of, HasEnds, AreViewsOfClasses, AreShown, EndsAmongClasses}
+use Rattle.groot_run.specs.ShownClasses.{NoListedPasses, class_of, HasEnds, AreViewsOfClasses, AreShown, EndsAmongClasses}
 
 -- ---- the classes of rows
 
@@ -41,6 +42,17 @@ classes_split rows i row there is =
     let next : suc i ≡ i + 1 = omega arith in
     ap classes_of_rows (sym (take-append-drop i rows) ∙ ap (λ rest. take i rows ++ rest) (drop-cons rows i row there ∙ (λ j. sym is j ∷ drop (next j) rows)))
     ∙ flat_map-append classes_of_row (take i rows) (row ∷ drop (i + 1) rows)
+
+-- a class with its representative
+abbrev class_with : Class → Labels → ListedClass
+class_with class representative = record { class = class; representative = representative }
+
+-- the class of a row's name and the class below it, with a representative, are those of the row
+classes_are : (row : ClassRow) (representative : Labels) (exact below : Class) → row.below ≡ Some representative → exact ≡ Exact row.name → below ≡ Below row.name
+    → class_with exact row.name ∷ class_with below representative ∷ [] ≡ classes_of_row row
+classes_are row representative exact below is same also =
+    (λ i. class_with (same i) row.name ∷ class_with (also i) representative ∷ [])
+    ∙ ap (λ (found : Option Labels). class_with (Exact row.name) row.name ∷ class_below row.name found) (sym is)
 
 module _ (queries : LimitedQueries) where
   -- ---- representatives that pass
@@ -132,16 +144,19 @@ module _ (queries : LimitedQueries) where
   ends_there class query ending passes (inr ran_out) = inr ran_out
 
   -- a run that ends at the class of a row's name alone ends among the classes of the row
-  pub ends_exact : (row : ClassRow) (ending : Ending) → EndsAmongClasses queries (exact_class row.name ∷ []) ending → EndsAmongClasses queries (classes_of_row row) ending
-  ends_exact row ending ends = ends_before (exact_class row.name ∷ []) (class_below row.name row.below) ending ends
-
-  -- an ending among the class below the row's name, if none passes before, is one among the row's classes
-  pub ends_below : (row : ClassRow) (representative : Labels) (ending : Ending) → row.below ≡ Some representative
-      → NoListedPasses queries (exact_class row.name ∷ []) → EndsAmongClasses queries (below_class row.name representative ∷ []) ending
+  pub ends_exact : (row : ClassRow) (exact : Class) (ending : Ending) → exact ≡ Exact row.name → EndsAmongClasses queries (class_with exact row.name ∷ []) ending
       → EndsAmongClasses queries (classes_of_row row) ending
-  ends_below row representative ending below none ends =
-      subst (λ (found : Option Labels). EndsAmongClasses queries (exact_class row.name ∷ class_below row.name found) ending) (sym below)
-      (ends_behind (exact_class row.name ∷ []) (below_class row.name representative ∷ []) ending none ends)
+  ends_exact row exact ending same ends =
+      ends_before (class_with (Exact row.name) row.name ∷ []) (class_below row.name row.below) ending
+      (subst (λ (class : Class). EndsAmongClasses queries (class_with class row.name ∷ []) ending) same ends)
+
+  -- a run that ends at the class below a row's name, if that of the name alone doesn't pass, ends among the row's classes
+  pub ends_below : (row : ClassRow) (representative : Labels) (exact below : Class) (ending : Ending) → row.below ≡ Some representative → exact ≡ Exact row.name
+      → below ≡ Below row.name → NoListedPasses queries (class_with exact row.name ∷ []) → EndsAmongClasses queries (class_with below representative ∷ []) ending
+      → EndsAmongClasses queries (classes_of_row row) ending
+  ends_below row representative exact below ending is same also none ends =
+      subst (λ (classes : List ListedClass). EndsAmongClasses queries classes ending) (classes_are row representative exact below is same also)
+      (ends_behind (class_with exact row.name ∷ []) (class_with below representative ∷ []) ending none ends)
 
   -- a run that ends among the classes of the next row ends among those of the rows up to it
   pub ends_at_row : (rows : List ClassRow) (i : ℕ) (row : ClassRow) (ending : Ending) → i < length rows → row ≡ get_or rows i row
@@ -207,18 +222,13 @@ module _ (queries : LimitedQueries) where
 
     -- ---- of the classes of a row
 
-    -- checks that were shown the class of a row's name alone were shown the whole row, if nothing is below that name
-    pub shown_alone : (row : ClassRow) (a b : List B) → row.below ≡ None → AreShown name held step queries (exact_class row.name ∷ []) a b
-        → AreShown name held step queries (classes_of_row row) a b
-    shown_alone row a b alone shown = subst (λ (below : Option Labels). AreShown name held step queries (exact_class row.name ∷ class_below row.name below) a b) (sym alone) shown
-
     -- checks that were shown the class of a row's name alone, and then the class below, were shown the whole row
-    pub shown_both : (row : ClassRow) (representative : Labels) (a b c : List B) → row.below ≡ Some representative
-        → AreShown name held step queries (exact_class row.name ∷ []) a b → AreShown name held step queries (below_class row.name representative ∷ []) b c
-        → AreShown name held step queries (classes_of_row row) a c
-    shown_both row representative a b c below first next =
-        subst (λ (found : Option Labels). AreShown name held step queries (exact_class row.name ∷ class_below row.name found) a c) (sym below)
-        (shown_more (exact_class row.name ∷ []) (below_class row.name representative ∷ []) a b c first next)
+    pub shown_both : (row : ClassRow) (representative : Labels) (exact below : Class) (a b c : List B) → row.below ≡ Some representative → exact ≡ Exact row.name
+        → below ≡ Below row.name → AreShown name held step queries (class_with exact row.name ∷ []) a b
+        → AreShown name held step queries (class_with below representative ∷ []) b c → AreShown name held step queries (classes_of_row row) a c
+    shown_both row representative exact below a b c is same also first next =
+        subst (λ (classes : List ListedClass). AreShown name held step queries classes a c) (classes_are row representative exact below is same also)
+        (shown_more (class_with exact row.name ∷ []) (class_with below representative ∷ []) a b c first next)
 
     -- ---- of the classes of rows
 

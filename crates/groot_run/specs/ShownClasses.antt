@@ -2,7 +2,6 @@
 use Rattle.std.specs.Prelude.{◌≡◌, ◌⊎◌, ℕ, List, ◌∷◌, ◌++◌, map, Contains}
 use Rattle.std.specs.List.{AllZip}
 use Rattle.dns_data.specs.Name.{Labels}
-use Rattle.net_model.specs.declared.class.Class.TheVariants.{Exact, Below}
 use Rattle.net_model.specs.Learnt.{IsInForce}
 use Rattle.net_model.specs.Step.{following}
 use Rattle.query_classes.specs.ClassList.{ListedClass}
@@ -17,14 +16,6 @@ use Rattle.groot_run.specs.Outcome.{too_many_states}
 -- the representative of none of these classes reaches more pairs of state and type than it may
 abbrev pub NoListedPasses : LimitedQueries → List ListedClass → Type 0
 NoListedPasses queries classes = (listed : ListedClass) → Contains classes listed → Passes queries listed.representative → ⊥
-
--- a name that is alone in its class
-abbrev pub exact_class : Labels → ListedClass
-exact_class name = record { class = Exact name; representative = name }
-
--- the class below a name, with its representative
-abbrev pub below_class : Labels → Labels → ListedClass
-below_class above representative = record { class = Below above; representative = representative }
 
 -- the class of a view, with its representative
 abbrev pub class_of : View → ListedClass

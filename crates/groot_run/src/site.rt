@@ -7,7 +7,7 @@ ghost use Rattle.query_verdicts.specs.Queries.{limited_to, most_states};
 ghost use Rattle.report_json.specs.Sites.{sites_text};
 ghost use Rattle.run_endings.specs.Endings.{no_memory};
 ghost use Rattle.groot_run.specs.Outcome.{TellsFindings, ShowsClasses, WithinStates, site_rewrites};
-ghost use Rattle.groot_run.specs.ShownClasses.{AreShown, EndsAmongClasses, below_class, exact_class};
+ghost use Rattle.groot_run.specs.ShownClasses.{AreShown, EndsAmongClasses};
 
 use crate::classes::rows_within;
 use crate::ending::too_many_states;
@@ -112,42 +112,15 @@ fn show_row(
     ensures ok { OnOk result (AreShown (λ b. name b) (λ b. held b) (λ b. step b) graphs.now (classes_of_row row.now) sites.old.items sites.new.items) }
     ensures err { IfErr result (EndsAmongClasses graphs.now (classes_of_row row.now)) }
 {
-    show_exact(alloc, graphs, &row.name, sites)?;
+    let exact = Class::Exact(row.name.copy(alloc)?);
+    show_class(alloc, graphs, &exact, &row.name, sites)?;
     match &row.below {
-        Some(representative) => show_below(alloc, graphs, &row.name, representative, sites),
+        Some(representative) => {
+            let below = Class::Below(row.name.copy(alloc)?);
+            show_class(alloc, graphs, &below, representative, sites)
+        }
         None => Ok(()),
     }
-}
-
-/// Shows the view of a name that is alone in its class to all checks.
-fn show_exact(
-    alloc: Global,
-    graphs: &QueryGraphs<'_>,
-    query: &Name,
-    sites: &mut Vec<Box<dyn SiteCheck>>,
-) -> Result<(), Ending>
-    ensures ok { OnOk result (AreShown (λ b. name b) (λ b. held b) (λ b. step b) graphs.now
-        (exact_class query.now ∷ []) sites.old.items sites.new.items) }
-    ensures err { IfErr result (EndsAmongClasses graphs.now (exact_class query.now ∷ [])) }
-{
-    let class = Class::Exact(query.copy(alloc)?);
-    show_class(alloc, graphs, &class, query, sites)
-}
-
-/// Shows the view of the class below a name, by its representative, to all checks.
-fn show_below(
-    alloc: Global,
-    graphs: &QueryGraphs<'_>,
-    above: &Name,
-    representative: &Name,
-    sites: &mut Vec<Box<dyn SiteCheck>>,
-) -> Result<(), Ending>
-    ensures ok { OnOk result (AreShown (λ b. name b) (λ b. held b) (λ b. step b) graphs.now
-        (below_class above.now representative.now ∷ []) sites.old.items sites.new.items) }
-    ensures err { IfErr result (EndsAmongClasses graphs.now (below_class above.now representative.now ∷ [])) }
-{
-    let class = Class::Below(above.copy(alloc)?);
-    show_class(alloc, graphs, &class, representative, sites)
 }
 
 /// Shows the view of a class for which the query stands to all checks. Where the name of some server reaches too many
