@@ -48,20 +48,16 @@ not_loaded told before after meta (load_faults.Read file) ending gives came fail
 not_loaded told before after meta load_faults.NoMemory ending gives came failed (inl is) = inr (inr is)
 not_loaded told before after meta fault ending gives came failed (inl is) = inl (fault, gives, is)
 
-module _ (told : FilesTold) (before after : List ℕ → ℕ) (of_config : Config → Ending → Type 0) (own meta : List ℕ) (same : own ≡ meta) (ending : Ending) where
+module _ (told : FilesTold) (before after : List ℕ → ℕ) (of_config : Config → Ending → Type 0) (meta : List ℕ) (ending : Ending) where
   -- a run that read its configuration ends as the configuration says, or because memory ran out
-  pub over_config : (config : Config) → conf own told ≡ Reads config → of_config config ending ⊎ (ending ≡ no_memory) → EndsOverConfig meta of_config told before after ending
-  over_config config reads (inl gives) =
-      inl (subst (λ (m : List ℕ). OfReading m of_config (conf m told) ending) same
-      (subst (λ (read : Reading Config). OfReading own of_config read ending) (sym reads) gives))
+  pub over_config : (config : Config) → conf meta told ≡ Reads config → of_config config ending ⊎ (ending ≡ no_memory) → EndsOverConfig meta of_config told before after ending
+  over_config config reads (inl gives) = inl (subst (λ (read : Reading Config). OfReading meta of_config read ending) (sym reads) gives)
   over_config config reads (inr ran_out) = inr (inr ran_out)
 
   -- how a run ends whose files give no configuration is how one over the files of the metadata ends
-  pub over_none : EndsWithoutConfig own told before after ending → EndsOverConfig meta of_config told before after ending
-  over_none ends = subst (λ (m : List ℕ). EndsOverConfig m of_config told before after ending) same (by ends) where
-    by : EndsWithoutConfig own told before after ending → EndsOverConfig own of_config told before after ending
-    by (inl (fault, refuses, is)) = inl (subst (λ (read : Reading Config). OfReading own of_config read ending) (sym refuses) is)
-    by (inr failed) = inr failed
+  pub over_none : EndsWithoutConfig meta told before after ending → EndsOverConfig meta of_config told before after ending
+  over_none (inl (fault, refuses, is)) = inl (subst (λ (read : Reading Config). OfReading meta of_config read ending) (sym refuses) is)
+  over_none (inr failed) = inr failed
 
 -- a run that ends since the class tree has too many names ends so, whatever its command gives within the limit
 pub without_rows : (config : Config) (limit : ℕ) (P : Type 0) (ending : Ending) → EndsPast (IsInTree (ground_of config)) limit ending

@@ -1,4 +1,4 @@
-use Rattle.std.proofs.Common.{◌≡◌, ◌∙◌, ℕ, codes, ap, sym, subst, inl, inr, refl, arith}
+use Rattle.std.proofs.Common.{◌≡◌, ◌∙◌, ℕ, codes, ap, sym, subst, inl, inr, arith}
 use Rattle.std.specs.Prelude.{◌⊎◌}
 use Rattle.config_load.specs.Conf.{conf}
 use Rattle.io_edges.specs.Files.{FilesTold, TellsAll}
@@ -26,11 +26,11 @@ unfailing zones made left ending is stays (inr (inr ran_out)) = inr ran_out
 pub returns-in-Ok-configuration : goal.returns-in-Ok-configuration
 returns-in-Ok-configuration g c =
     unfailing c.args.zones c.in-Ok.files c.configuration.new.files c.of_config.result c.in-Ok.ensures c.in-Ok-configuration.ensures.from_the_start
-    (over_config (told_of c.configuration.new.files) (no_failures c.in-Ok.files) (no_failures c.configuration.new.files) (Drills c.args.zones) (codes "meta.json") (codes "meta.json") refl
+    (over_config (told_of c.configuration.new.files) (no_failures c.in-Ok.files) (no_failures c.configuration.new.files) (Drills c.args.zones) (codes "meta.json")
     c.of_config.result c.in-Ok-configuration.config c.in-Ok-configuration.ensures.ok c.of_config.ensures)
 
 pub returns-in-Ok : goal.returns-in-Ok
 returns-in-Ok g c =
     unfailing c.args.zones c.in-Ok.files c.configuration.new.files c.in-Err-configuration.ending c.in-Ok.ensures c.in-Err-configuration.ensures.from_the_start
-    (over_none (told_of c.configuration.new.files) (no_failures c.in-Ok.files) (no_failures c.configuration.new.files) (Drills c.args.zones) (codes "meta.json") (codes "meta.json") refl
+    (over_none (told_of c.configuration.new.files) (no_failures c.in-Ok.files) (no_failures c.configuration.new.files) (Drills c.args.zones) (codes "meta.json")
     c.in-Err-configuration.ending c.in-Err-configuration.ensures.err)
