@@ -1,4 +1,3 @@
-use Rattle.std.proofs.Common.{◌∙◌}
 use Rattle.config_load.proofs.Steady.{conf_is_steady, opens_both, opens_first}
 use Rattle.config_load.specs.Conf.{conf}
 use Rattle.config_load.specs.Reading.{file_octets}
