@@ -34,7 +34,7 @@ pub record AreAlike (awaited one other : List Labels) : Type 0 where
   pub apart : (server : Labels) → name_eq name server ≡ false → is_among one server ≡ is_among other server
   pub not_awaited : Contains awaited name → ⊥
 
--- if one set of servers is like another but for names that aren't awaited, the other is like the one
+-- if one set of servers is like another but for one name, which isn't awaited, the other is like the one
 pub alike_back : (awaited one other : List Labels) → AreAlike awaited one other → AreAlike awaited other one
 alike_back awaited one other alike =
     record { name = alike.name; apart = λ server differs. sym (alike.apart server differs); not_awaited = alike.not_awaited }
@@ -91,13 +91,13 @@ module _ (rewrites : ℕ) (config : Config) (query : Labels) (graph : PlainGraph
         path_learns config rewrites other of_other query graph rtype is
         (record { at = path.at; numbers = path.numbers; starts = path.starts; gives = sym (same_path rtype path.numbers path.at) ∙ path.gives })
 
-    -- if two sets of servers differ in a name that isn't awaited alone, an address that is learnt with the one is
-    -- learnt with the other
+    -- if two sets of servers differ in nothing but one name, which isn't awaited, an address that is learnt with the one
+    -- is learnt with the other
     pub same_learnt : Learns (following config rewrites one) query → Learns (following config rewrites other) query
     same_learnt learns = elim learns [ inl four ↦ inl (same_learnt_by types.A four) | inr six ↦ inr (same_learnt_by types.Aaaa six) ]
 
--- if two sets of servers differ in a name that isn't awaited alone, the address of a server of which something is told
--- is learnt with both or with neither
+-- if two sets of servers differ in nothing but one name, which isn't awaited, the address of a server of which something
+-- is told is learnt with the other where it is with the one
 pub same_told : (rewrites : ℕ) (config : Config) (name : Labels) (told : AddressTold) → IsToldOf config rewrites name told → (one other : List Labels)
     → AreAlike (told_awaits config told) one other → AreServers config one → AreServers config other
     → Learns (following config rewrites one) name → Learns (following config rewrites other) name

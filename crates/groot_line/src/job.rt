@@ -30,7 +30,7 @@ pub enum Job {
 /// What is asked of one configuration.
 #[derive(Debug, Drop)]
 pub enum Task {
-    /// Its report.
+    /// The report of the configuration.
     Check {
         workers: u32,
         classes: u32,
@@ -45,7 +45,7 @@ pub enum Task {
     Classes {
         classes: u32,
     },
-    /// What the checks of sites find in it.
+    /// What the checks of sites find in the configuration.
     Site,
     /// The report on the queries at or below a name, and what the checks of sites find in their classes.
     Scope {

@@ -43,7 +43,7 @@ one_within config limit P Q a b same (inl p) (inr q) = absurd (q.0 p.0)
 one_within config limit P Q a b same (inr p) (inl q) = absurd (p.0 q.0)
 one_within config limit P Q a b same (inr p) (inr q) = same p.1 q.1
 
--- and by whether a representative reaches too many pairs
+-- two endings are equal that are told by whether a representative reaches too many pairs, if those told otherwise are
 one_within_states : (config : Config) (rewrites : ℕ) (P Q : Type 0) (a b : Ending) → (P → Q → a ≡ b)
     → WithinStates config rewrites P a → WithinStates config rewrites Q b → a ≡ b
 one_within_states config rewrites P Q a b same (inl (query, first, is)) (inl (other, also, was)) =

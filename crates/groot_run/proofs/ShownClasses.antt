@@ -27,7 +27,7 @@ use Rattle.groot_run.specs.ShownClasses.{NoListedPasses, class_of, HasEnds, AreV
 
 -- ---- the classes of rows
 
--- those of the rows up to one, and of that row
+-- the classes of the rows up to one are those of the rows before it, and then those of that row
 classes_more : (rows : List ClassRow) (i : ℕ) (row : ClassRow) → i < length rows → row ≡ get_or rows i row
     → classes_of_rows (take (i + 1) rows) ≡ classes_of_rows (take i rows) ++ classes_of_row row
 classes_more rows i row there is =
@@ -35,7 +35,7 @@ classes_more rows i row there is =
     ∙ flat_map-append classes_of_row (take i rows) (row ∷ [])
     ∙ ap (λ cs. classes_of_rows (take i rows) ++ cs) (append-nil (classes_of_row row))
 
--- those of the rows up to one, of that row, and of the rows behind it
+-- the classes of rows are those of the rows before one, then those of that row, and then those of the rows behind it
 classes_split : (rows : List ClassRow) (i : ℕ) (row : ClassRow) → i < length rows → row ≡ get_or rows i row
     → classes_of_rows rows ≡ classes_of_rows (take i rows) ++ (classes_of_row row ++ classes_of_rows (drop (i + 1) rows))
 classes_split rows i row there is =

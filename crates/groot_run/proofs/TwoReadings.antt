@@ -29,7 +29,7 @@ module _ {T : Type 0} (meta : List ℕ) (second : FilesTold → Reading T) (of_c
         inr (inl (file, is, comes_second (conf meta) second (conf_is_steady meta) told config file later comes, rose_then (before file) (middle file) (after file) (none file) rose))
     by (inr (inr ran_out)) = inr (inr ran_out)
 
-  -- a run without a configuration ends so, and doesn't come to the second reading
+  -- a run to which the first files give no configuration ends as one over both readings does
   pub over_neither : (told : FilesTold) (before after : List ℕ → ℕ) → EndsWithoutConfig meta told before after ending
       → EndsOrFails (OfReading meta of_config (conf meta told) ending) (ComesToFile (both (conf meta) second) told) before after ending
   over_neither told before after (inl (fault, refuses, is)) = inl (subst (λ (read : Reading Config). OfReading meta of_config read ending) (sym refuses) is)

@@ -34,7 +34,7 @@ pub record HasClasses (config : Config) (rewrites : ℕ) : Type 0 where
   pub prefixes : (above below : Labels) → IsNamed (ground_of config) (above ++ below) → IsNamed (ground_of config) above
   -- names that differ in unnamed labels alone walk alike
   pub simulation : (above own other : Labels) → AreTails config above own other → WalkAlike config rewrites above own other
-  -- so each name walks as its class's representative, up to the labels below the class's name; the representative of a name
+  -- each name walks as its class's representative, up to the labels below the class's name; the representative of a name
   -- that is alone in its class is that name
   pub members : (above query representative : Labels) → IsName query → IsClassOf (ground_of config) query (Below above)
       → IsRepresentative (ground_of config) (Below above) representative → WalksAsOther config rewrites above query representative

@@ -28,7 +28,7 @@ module _ (config : Config) (rewrites : ℕ) (query : Labels) where
   reached : (pair : State × RrType) → StandsOn (following config rewrites (server_names config)) query pair → IsReached config rewrites query pair
   reached pair stands = record { walk = stands.walk; is_walk = stands.is_walk; stands = stands.stands }
 
-  -- each pair of a graph built from drafts is reached by the query
+  -- in a graph built from drafts no state has two nodes, and each pair of state and type is reached by the query
   pub built_exact : (drafts : List Draft) (starts : List ℕ) → AreDrafts (following config rewrites (server_names config)) (start config query) drafts
       → AllPairs (λ a b. a ≢ b) (states_of drafts) → IsExact config rewrites query (record { nodes = map node_of drafts; starts = starts })
   built_exact drafts starts are once =

@@ -16,7 +16,7 @@ use Rattle.graph_form.proofs.Places.{place_of_item}
 use Rattle.interp_graph.specs.Drafts.{IsDraft, AreDrafts, node_of, size_of, pair_count, Draft}
 use Rattle.interp_graph.proofs.Counts.{draft_pairs}
 
--- those of one node
+-- the node of a draft has no more pairs of state and type than types came to the draft
 one_node_pairs : (draft : Draft) → IsDraft draft → length (node_pairs (node_of draft)) ≤ size_of draft.wanted
 one_node_pairs draft is =
     by (size_of draft.wanted) (length (node_pairs (node_of draft))) (length (draft_pairs draft))
@@ -38,7 +38,7 @@ one_node_pairs draft is =
         (map_has make (filter (has_bit draft.wanted) types) typed.0
         (filter_has (has_bit draft.wanted) types typed.0 (every_type typed.0) (is.armed arm.0 arm.1 typed.0 has_type).0))
 
--- those of all nodes
+-- the nodes of drafts have no more pairs of state and type than came to the drafts
 all_node_pairs : (drafts : List Draft) → ((draft : Draft) → Contains drafts draft → IsDraft draft)
     → length (flat_map node_pairs (map node_of drafts)) ≤ pair_count drafts
 all_node_pairs [] each = omega arith

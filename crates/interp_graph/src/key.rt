@@ -1,12 +1,10 @@
 //! States as keys.
 
 ghost use Rattle.std.specs.Prelude.{◌≡◌, fold};
-ghost use Rattle.graph_form.specs.FirstPath.{place_eq};
-ghost use Rattle.interp_graph.specs.StateKey.{state_eq, maybe_eq};
-ghost use Rattle.dns_data.specs.Name.{name_eq};
+ghost use Rattle.interp_graph.specs.StateKey.{state_eq};
 
 use dns_data::{Boxed, Name};
-use net_model::{Place, State};
+use net_model::State;
 use std::hash::{Hash, Hasher};
 use std::marker::Model;
 
@@ -104,28 +102,6 @@ fn same_states(a: &State, b: &State) -> bool
         && a.name == b.name
         && a.server == b.server
         && a.carried == b.carried
-        && same_last(&a.last, &b.last)
-        && same_origins(&a.zone, &b.zone)
-}
-
-/// Whether two places are one, or neither is there.
-fn same_last(a: &Option<Place>, b: &Option<Place>) -> bool
-    ensures { result ≡ maybe_eq place_eq a.now b.now }
-{
-    match (a, b) {
-        (None, None) => true,
-        (Some(a), Some(b)) => a == b,
-        _ => false,
-    }
-}
-
-/// Whether two origins are one, or neither is there.
-fn same_origins(a: &Option<Name>, b: &Option<Name>) -> bool
-    ensures { result ≡ maybe_eq name_eq a.now b.now }
-{
-    match (a, b) {
-        (None, None) => true,
-        (Some(a), Some(b)) => *a == *b,
-        _ => false,
-    }
+        && a.last == b.last
+        && a.zone == b.zone
 }

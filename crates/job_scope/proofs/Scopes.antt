@@ -17,7 +17,7 @@ use Rattle.job_scope.specs.Scoped.{scoped, widened}
 pub scope_covers : (config : Config) (name : Labels) → Covers (widened config name) config
 scope_covers config name = joined_covers (config ∷ []) (name ∷ []) config (has_first config [])
 
--- the widened ground names the scope's name, which is in its class tree
+-- the ground of a scope covers the configuration, and the scope's name is in its class tree
 pub is_covered : (config : Config) (rewrites : ℕ) (name : Labels) → IsName name → IsCovering (scoped config rewrites name)
 is_covered config rewrites name is =
     record { covers = scope_covers config name; in_tree = (given_named (config ∷ []) (name ∷ []) name (has_first name []), is) }

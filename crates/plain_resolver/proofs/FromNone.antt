@@ -13,13 +13,15 @@ module _ (config : Config) (rewrites : ℕ) (begin : List Labels) (none : begin 
       subst (IsLeast config rewrites) (sym same)
       (subst (λ (names : List Labels). AfterRounds config rewrites (length config.servers) names learnt) none rounds)
 
-  -- if no server's name has too many walks in the rounds from here, none has in those from no server
+  -- if no server's name has too many walks in the rounds begun with this list, which is empty, none has in those from no
+  -- server
   pub few_from_none : (most : ℕ) → NoneInRounds config rewrites most begin (length config.servers)
       → NoneInRounds config rewrites most [] (length config.servers)
   few_from_none most few =
       subst (λ (names : List Labels). NoneInRounds config rewrites most names (length config.servers)) none few
 
-  -- the first server's name with too many walks in the rounds from here is the first in those from no server
+  -- the first server's name with too many walks in the rounds begun with this list, which is empty, is the first in those
+  -- from no server
   pub first_from_none : (most : ℕ) (server : Labels) → IsFirstWithTooMany config rewrites most begin server
       → IsFirstWithTooMany config rewrites most [] server
   first_from_none most server first =

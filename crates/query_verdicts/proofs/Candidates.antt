@@ -27,21 +27,22 @@ of_hop (Refer cut) =
     faults.Lame cut ∷ faults.Differs cut ∷ faults.NoGlue cut ∷ faults.GlueDiffers cut ∷ faults.Cyclic cut ∷ faults.NoAddress cut ∷ []
 of_hop (Rewrite place by_dname to) = []
 
--- those of an end
+-- the faults that an end may show by itself
 abbrev of_leaf : Leaf → List Fault
 of_leaf (leaves.Limit place) = faults.Limit place ∷ []
 of_leaf (leaves.Overlong place) = faults.Overlong place ∷ []
 of_leaf leaf = []
 
--- those of the place of a rewrite
+-- the faults that a state may show by the place of the rewrite that led to it
 abbrev of_place : Option Place → List Fault
 of_place None = []
 of_place (Some place) = faults.Blackhole place ∷ []
 
+-- the faults that a state may show
 abbrev of_state : State → List Fault
 of_state state = of_place state.last
 
--- those of a walk
+-- the faults that a walk may show by itself
 abbrev of_walk : Walk → List Fault
 of_walk walk = flat_map of_hop walk.hops ++ (of_leaf walk.leaf ++ flat_map of_state walk.states)
 

@@ -33,10 +33,12 @@ use verdict_book::{Filed, Work};
 /// Why the verdicts of names aren't put together, to a report or to a comparison.
 #[derive(Debug, Drop, Error)]
 pub enum JudgeFault {
-    /// More pairs of state and type than are looked at are reached by this name: by the first representative of a class
-    /// that does so, or by another name of which the call speaks.
+    /// This name reaches more pairs of state and type than are looked at. It is the first representative of a class that
+    /// does, in one of the configurations where two are compared. For a report, where no representative does, it is the
+    /// first name of a configured server that does.
     #[error("more states than are looked at")]
     StatesPassed(Name),
+    /// Memory ran out.
     #[error("no memory")]
     NoMemory,
 }

@@ -67,7 +67,7 @@ module _ (two : Compared) where
   pub covers_second : Covers (joint two) two.second
   covers_second = joined_covers (two.first ∷ two.second ∷ []) [] two.second (has_later two.first (two.second ∷ []) two.second (has_first two.second []))
 
-  -- the first of two configurations under their joint ground is a subject of all names
+  -- the joint ground covers the first configuration, and the root is in its class tree
   pub is_covering : IsCovering (at_all_names two.first two.rewrites (joint two))
   is_covering = record { covers = covers_first; in_tree = root_in_tree two.first (joint two) covers_first }
 

@@ -26,5 +26,6 @@ mod verdict;
 
 pub use naming::{JointGround, PairNaming};
 pub use pairing::Pairing;
+pub use query_verdicts::JudgeFault;
 pub use sameness::Sameness;
 pub use verdict::PairEnd;

@@ -30,11 +30,11 @@ module _ (config : Config) (deps : Deps) (rewrites most : ℕ) (query : Labels) 
   Straight setting ends = (rtype : RrType) → GoesStraight setting deps most query ends rtype
 
   module _ (ends : StraightEnds) (straight : GoesStraightIn config deps rewrites most query ends) where
-    -- while the servers of the least set are followed
+    -- the query goes straight while the servers of the least set are followed
     in_least : Straight (following config rewrites deps.least) ends
     in_least = straight (following config rewrites deps.least) (record { config_is = refl; follows = least_followed config rewrites deps }) (omega arith)
 
-    -- and while all are
+    -- the query goes straight while all servers are followed
     in_all : Straight (following config rewrites (server_names config)) ends
     in_all = straight (following config rewrites (server_names config)) (record { config_is = refl; follows = all_followed config rewrites deps }) (omega arith)
 

@@ -44,7 +44,7 @@ module _ (name longer : Labels) (below : is_prefix name longer ≡ true) (more :
     by Equal e h = omega (arith, more, ap (λ (n : Labels). length n) (same_names longer name e))
     by Greater e h = true≢false h
 
-  -- and before each name that is past it
+  -- a name that is past the shorter one doesn't stand at the longer one or before it
   never_behind : (past : Labels) → IsPastName name past → UpTo past longer → ⊥
   never_behind past is up =
       let front = is_prefix_tells name longer below in

@@ -25,8 +25,7 @@
 //! twice. Where no origin is at or above the query, a queue is made of the states at the top servers. No graph is made.
 //! Where each of these servers refers the query to servers elsewhere or holds no zone for it, its ends are told of the
 //! names below too, and where the others answer it by data of its own and have no wildcard below it, of the query with
-//! an unnamed tail: those take no search of their own. Whether
-//! an origin stands below a name takes three comparisons.
+//! an unnamed tail: those take no search of their own. Whether an origin stands below a name takes three comparisons.
 #![tactic(auto)]
 
 mod aliases;
