@@ -5,6 +5,7 @@ mod classes;
 mod configs;
 mod entries;
 mod lines;
+mod lookups;
 mod open_tails;
 mod outputs;
 mod pool_machine;

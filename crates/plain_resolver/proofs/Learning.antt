@@ -1,54 +1,19 @@
--- What is learnt, by the list of all walks of a name, and in rounds.
-use Rattle.std.proofs.Common.{◌≡◌, ◌↔◌, ℕ, zero, suc, ◌+◌, ◌<◌, ◌≤◌, Bool, true, cond, List, [], ◌∷◌, ◌++◌, map, take, drop, length, get_or, filter, Contains, Option, Some, sym, ap, ◌∙◌, subst, inl, inr, arith}
-use Rattle.std.specs.Prelude.{is_some, if◌then◌else◌}
-use Rattle.std.specs.List.{list_any}
+-- What is learnt in rounds.
+use Rattle.std.proofs.Common.{◌≡◌, ◌↔◌, ℕ, zero, suc, ◌+◌, ◌<◌, ◌≤◌, Bool, true, cond, List, [], ◌∷◌, ◌++◌, map, take, drop, length, get_or, filter, Contains, sym, ap, ◌∙◌, subst, inl, inr, arith}
+use Rattle.std.specs.Prelude.{if◌then◌else◌}
 use Rattle.std.proofs.lemmas.Bool.{cases_lt}
 use Rattle.std.proofs.lemmas.List.{take_more, drop_more, map-append, take-append-drop}
 use Rattle.std.proofs.lemmas.List.Elements.{filter-append, Contains-append_cases}
 use Rattle.dns_data.specs.Name.{Labels}
-use Rattle.dns_data.specs.declared.rr_type.RrType.{RrType}
-use Rattle.dns_data.proofs.Membership.{none_in_nil, first_or_later, map_has, from_map}
-use Rattle.dns_data.proofs.Searches.{from_any, any_has, same_truth}
+use Rattle.dns_data.proofs.Membership.{none_in_nil, first_or_later}
+use Rattle.dns_data.proofs.Searches.{same_truth}
 use Rattle.net_model.specs.declared.config.Config.{Config}
 use Rattle.net_model.specs.declared.config.Server.{Server}
-use Rattle.net_model.specs.declared.walk.Walk.{Walk}
-use Rattle.net_model.specs.Learnt.{gives_address, LearnsBy, Learns, IsRound, AfterRounds}
-use Rattle.net_model.specs.Step.{Setting, following}
-use Rattle.net_model.specs.Walk.{walk_along, AreWalks}
+use Rattle.net_model.specs.Learnt.{Learns, IsRound, AfterRounds}
+use Rattle.net_model.specs.Step.{following}
 use Rattle.net_model.proofs.LearntSets.{one_after_rounds}
 use Rattle.net_model.proofs.RoundsExist.{learns_decided}
 use Rattle.plain_resolver.specs.Passed.{HasTooMany, NoneHasTooMany, NoneInRounds, IsFirstToPass}
-
-module _ (setting : Setting) (name : Labels) (rtype : RrType) (walks : List Walk) (are : AreWalks setting name rtype walks) where
-  -- the walk ends with an address
-  abbrev pub gives : Walk → Bool
-  gives walk = gives_address walk.leaf
-
-  -- each of all walks is one by its numbers
-  numbers_of : (walk : Walk) → Contains walks walk → (numbers : List ℕ) × (walk_along setting name rtype numbers ≡ Some walk)
-  numbers_of walk has =
-      let among = subst (λ (found : List (Option Walk)). Contains found (Some walk)) (sym are.2) (map_has (λ (w : Walk). Some w) walks walk has) in
-      let found = from_map (walk_along setting name rtype) are.0 (Some walk) among in
-      (found.0, found.2)
-
-  -- and each walk is among all
-  is_among : (numbers : List ℕ) (walk : Walk) → walk_along setting name rtype numbers ≡ Some walk → Contains walks walk
-  is_among numbers walk is =
-      let there = (are.1.all numbers).1 (ap is_some is) in
-      let among = subst (λ (found : List (Option Walk)). Contains found (Some walk)) are.2
-      (subst (Contains (map (walk_along setting name rtype) are.0)) is (map_has (walk_along setting name rtype) are.0 numbers there)) in
-      let found = from_map (λ (w : Walk). Some w) walks (Some walk) among in
-      let same : found.0 ≡ walk = cc in
-      subst (Contains walks) same found.1
-
-  -- the test says that an address is learnt exactly if one of the walks gives one
-  pub learns_told : (test : Bool) → test ≡ list_any gives walks → (test ≡ true) ↔ LearnsBy setting name rtype
-  learns_told test is = (
-    λ some.
-        let found = from_any gives walks (sym is ∙ some) in
-        record { walk = found.0; is_walk = numbers_of found.0 found.1; ends = found.2 },
-    λ learns. is ∙ any_has gives walks learns.walk (is_among learns.is_walk.0 learns.walk learns.is_walk.1) learns.ends,
-  )
 
 -- whether an address of a name is learnt while some servers are followed
 pub test_while : Config → ℕ → List Labels → Labels → Bool

@@ -26,7 +26,7 @@ impl Model for BegunWalk {
 
 impl BegunWalk {
     /// The walk before its first state.
-    pub fn new(alloc: Global) -> BegunWalk
+    pub(crate) fn new(alloc: Global) -> BegunWalk
         ensures { result ≡ record { states = []; hops = [] } }
     {
         BegunWalk {
@@ -36,7 +36,7 @@ impl BegunWalk {
     }
 
     /// Puts a state at the end.
-    pub fn enter(&mut self, state: Boxed<State>) -> Result<(), NoMemory>
+    pub(crate) fn enter(&mut self, state: Boxed<State>) -> Result<(), NoMemory>
         ensures { OnOk result (self.new ≡ record { states = self.old.states ++ state ∷ []; hops = self.old.hops }) }
     {
         self.states.push(state)?;
@@ -44,14 +44,14 @@ impl BegunWalk {
     }
 
     /// Takes the last state off.
-    pub fn leave(&mut self)
+    pub(crate) fn leave(&mut self)
         ensures { (states : _) (state : _) → self.old.states ≡ states ++ state ∷ [] → self.new ≡ record { states = states; hops = self.old.hops } }
     {
         self.states.pop();
     }
 
     /// Puts a hop at the end.
-    pub fn go(&mut self, hop: Boxed<Hop>) -> Result<(), NoMemory>
+    pub(crate) fn go(&mut self, hop: Boxed<Hop>) -> Result<(), NoMemory>
         ensures { OnOk result (self.new ≡ record { states = self.old.states; hops = self.old.hops ++ hop ∷ [] }) }
     {
         self.hops.push(hop)?;
@@ -59,14 +59,14 @@ impl BegunWalk {
     }
 
     /// Takes the last hop off.
-    pub fn back(&mut self)
+    pub(crate) fn back(&mut self)
         ensures { (hops : _) (hop : _) → self.old.hops ≡ hops ++ hop ∷ [] → self.new ≡ record { states = self.old.states; hops = hops } }
     {
         self.hops.pop();
     }
 
     /// The walk with this end.
-    pub fn ended(
+    pub(crate) fn ended(
         &self,
         alloc: Global,
         hop: Option<Boxed<Hop>>,

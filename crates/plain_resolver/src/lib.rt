@@ -4,8 +4,8 @@
 //! are more than the limit; `learnt` gives what the definitions' rounds give. Each builds the trees of the configuration's
 //! zones; `resolve_at` and `learnt_at` are given them, where several queries are asked.
 //!
-//! Costs: each walk of a query is followed by itself. Of a server's name that is seen to rest no walk is followed to learn
-//! its address: it is looked up at the top servers, up to the first that gives one.
+//! Costs: each walk of a query is followed by itself. Of a server's name that rests no walk is followed to learn its address:
+//! it is looked up at the top servers that hold a zone for it.
 #![tactic(auto)]
 
 mod begun;

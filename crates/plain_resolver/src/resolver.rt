@@ -25,7 +25,7 @@ impl<'h, 'a> Model for Resolver<'h, 'a> {
 
 impl<'h, 'a> Resolver<'h, 'a> {
     /// The resolver of a query, while the servers of these names are followed.
-    pub fn new(
+    pub(crate) fn new(
         hosts: &'h Hosts<'a>,
         rewrites: u32,
         followed: &'h [Name],
@@ -42,21 +42,21 @@ impl<'h, 'a> Resolver<'h, 'a> {
     }
 
     /// What the steps of a walk depend on.
-    pub fn walker(&self) -> &Walker<'h, 'a>
+    pub(crate) fn walker(&self) -> &Walker<'h, 'a>
         ensures { result.now ≡ self.now.setting }
     {
         &self.walker
     }
 
     /// The name of the query.
-    pub fn query(&self) -> &'h Name
+    pub(crate) fn query(&self) -> &'h Name
         ensures { result.now ≡ self.now.query }
     {
         self.query
     }
 
     /// The type of the query.
-    pub fn rtype(&self) -> RrType
+    pub(crate) fn rtype(&self) -> RrType
         ensures { result ≡ self.now.rtype }
     {
         self.rtype

@@ -1,11 +1,11 @@
 //! The servers whose addresses are learnt.
 
-ghost use Rattle.std.specs.Prelude.{◌≡◌, ◌↔◌, ◌++◌, ◌∷◌, [], ℕ, List as Items, length, true, IfOk, OnOk, IsErrOf, if◌then◌else◌};
+ghost use Rattle.std.specs.Prelude.{◌≡◌, ◌↔◌, ◌++◌, ◌∷◌, [], ℕ, List as Items, length, true, IfOk, IfSome, OnOk, IsErrOf, if◌then◌else◌};
 ghost use Rattle.dns_data.specs.Name.{Labels};
 ghost use Rattle.net_model.specs.Learnt.{LearnsBy, Learns, IsRound, AfterRounds};
 ghost use Rattle.net_model.specs.Step.{following};
 ghost use Rattle.plain_resolver.specs.Passed.{HasMoreWalks, HasTooMany, NoneHasTooMany, NoneInRounds, IsFirstToPass, IsFirstWithTooMany};
-ghost use Rattle.resting_names.specs.Resting.{Rests};
+ghost use Rattle.zone_lookup.specs.Resting.{Rests};
 
 use crate::fault::{LearntFault, ResolveFault};
 use crate::resolver::Resolver;
@@ -13,9 +13,8 @@ use crate::visitor::AddressSeen;
 use crate::walks::visit_walks;
 use dns_data::{List, Name, NoMemory, RrType};
 use net_model::Config;
-use resting_names::{RestingNames, learns_at_tops};
 use std::alloc::Global;
-use zone_lookup::Hosts;
+use zone_lookup::{Hosts, TopServers, learnt_at_tops};
 
 /// How many walks of one query are followed at most where no other limit is named: of a server's name with type A or
 /// with type AAAA, to learn its address, as of any query.
@@ -55,10 +54,10 @@ pub fn learnt_at(
     ensures passed { (name : Labels) → IsErrOf result (LearntFault.WalksPassed name) → IsFirstWithTooMany hosts.now rewrites most from.now name }
 {
     let config = hosts.config();
-    let resting = RestingNames::of(alloc, config)?;
+    let tops = TopServers::of(alloc, hosts)?;
     let mut followed = from.copy(alloc)?;
     for _round in 0..config.servers.items().len() {
-        let learnt = learnt_while(alloc, hosts, &resting, rewrites, followed.items(), most)?;
+        let learnt = learnt_while(alloc, hosts, &tops, rewrites, followed.items(), most)?;
         if learnt == followed {
             return Ok(followed);
         }
@@ -71,12 +70,12 @@ pub fn learnt_at(
 fn learnt_while(
     alloc: Global,
     hosts: &Hosts<'_>,
-    resting: &RestingNames<'_>,
+    tops: &TopServers<'_>,
     rewrites: u32,
     followed: &[Name],
     most: u32,
 ) -> Result<List<Name>, LearntFault>
-    requires { resting.now ≡ hosts.now }
+    requires { tops.now ≡ hosts.now }
     ensures round { IfOk result (λ learnt. IsRound hosts.now rewrites followed.now learnt) }
     ensures few { OnOk result (NoneHasTooMany hosts.now rewrites most followed.now) }
     ensures passed { (name : Labels) → IsErrOf result (LearntFault.WalksPassed name) → IsFirstToPass hosts.now rewrites most followed.now name }
@@ -84,7 +83,7 @@ fn learnt_while(
     let mut learnt = List::new(alloc);
     for server in hosts.config().servers.items() {
         let name = &server.name;
-        let is_learnt = learns(alloc, hosts, resting, rewrites, followed, name, most)?;
+        let is_learnt = learns(alloc, hosts, tops, rewrites, followed, name, most)?;
         put_if(alloc, &mut learnt, &server.name, is_learnt)?;
     }
     Ok(learnt)
@@ -101,43 +100,43 @@ fn put_if(alloc: Global, names: &mut List<Name>, name: &Name, is_put: bool) -> R
 }
 
 /// Whether an address of the name can be learnt. It is `WalksPassed` with the name where it has more than `most` walks of
-/// type A or of type AAAA. No walk of a name is looked at that is seen to rest and to have no more.
+/// type A or of type AAAA. No walk of a name is looked at that rests and has no more.
 fn learns(
     alloc: Global,
     hosts: &Hosts<'_>,
-    resting: &RestingNames<'_>,
+    tops: &TopServers<'_>,
     rewrites: u32,
     followed: &[Name],
     name: &Name,
     most: u32,
 ) -> Result<bool, LearntFault>
-    requires { resting.now ≡ hosts.now }
+    requires { tops.now ≡ hosts.now }
     ensures learns { IfOk result (λ learns. (learns ≡ true) ↔ Learns (following hosts.now rewrites followed.now) name.now) }
     ensures few { OnOk result (HasTooMany hosts.now rewrites most followed.now name.now → ⊥) }
     ensures passed { (other : Labels) → IsErrOf result (LearntFault.WalksPassed other) → (name.now ≡ other) × HasTooMany hosts.now rewrites most followed.now name.now }
 {
-    if rests_within(alloc, hosts, resting, name, most)? {
-        return Ok(learns_at_tops(hosts, name));
+    match learnt_within(alloc, hosts, tops, name, most)? {
+        Some(learnt) => Ok(learnt),
+        None => learns_by_walks(alloc, hosts, rewrites, followed, name, most),
     }
-    learns_by_walks(alloc, hosts, rewrites, followed, name, most)
 }
 
-/// Whether the name is seen to rest and to have no more than `most` walks of a type: one at each top server.
-fn rests_within(
+/// Whether an address of a name can be learnt that rests and has no more than `most` walks of a type, one at each top server.
+fn learnt_within(
     alloc: Global,
     hosts: &Hosts<'_>,
-    resting: &RestingNames<'_>,
+    tops: &TopServers<'_>,
     name: &Name,
     most: u32,
-) -> Result<bool, NoMemory>
-    requires { resting.now ≡ hosts.now }
-    ensures rests { IfOk result (λ within. within ≡ true → Rests hosts.now name.now) }
-    ensures few { IfOk result (λ within. within ≡ true → (rewrites : ℕ) (followed : Items Labels) → HasTooMany hosts.now rewrites most followed name.now → ⊥) }
+) -> Result<Option<bool>, NoMemory>
+    requires { tops.now ≡ hosts.now }
+    ensures rests { IfOk result (λ told. IfSome told (Rests hosts.now name.now)) }
+    ensures few { IfOk result (λ told. IfSome told (λ learnt. (rewrites : ℕ) (followed : Items Labels) → HasTooMany hosts.now rewrites most followed name.now → ⊥)) }
 {
-    if hosts.config().tops.items().len() > most as usize {
-        return Ok(false);
+    if tops.count() > most as usize {
+        return Ok(None);
     }
-    resting.has(alloc, name)
+    learnt_at_tops(alloc, hosts, tops, name)
 }
 
 /// Whether an address of the name can be learnt, by its walks. It is `WalksPassed` with the name where it has more than

@@ -8,7 +8,7 @@ use crate::resolver::Resolver;
 use dns_data::{List, NoMemory};
 use net_model::State;
 use std::alloc::Global;
-use zone_lookup::{Step, after_lookup, find, outside};
+use zone_lookup::Step;
 
 /// The steps of a state, in order.
 pub(crate) fn steps_of(
@@ -18,10 +18,5 @@ pub(crate) fn steps_of(
 ) -> Result<List<Step>, NoMemory>
     ensures { IfOk result (λ steps. map branch_of steps ≡ next resolver.now.setting resolver.now.rtype state.now) }
 {
-    let walker = resolver.walker();
-    let Some(tree) = walker.hosts().nearest_of(&state.server, &state.name) else {
-        return outside(alloc);
-    };
-    let found = find(alloc, tree, &state.name, resolver.rtype())?;
-    after_lookup(alloc, walker, state, &tree.zone().origin, found)
+    zone_lookup::steps_of(alloc, resolver.walker(), state, resolver.rtype())
 }

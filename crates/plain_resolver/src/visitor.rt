@@ -59,14 +59,14 @@ impl Model for AddressSeen {
 
 impl AddressSeen {
     /// No walk was shown.
-    pub fn new() -> AddressSeen
+    pub(crate) fn new() -> AddressSeen
         ensures { result ≡ false }
     {
         AddressSeen { seen: false }
     }
 
     /// Whether one gives an address.
-    pub fn seen(&self) -> bool
+    pub(crate) fn seen(&self) -> bool
         ensures { result ≡ self.now }
     {
         self.seen

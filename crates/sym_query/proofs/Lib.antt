@@ -1,4 +1,3 @@
 mod AnswersOfTypes
-mod NoData
 mod Owners
 mod Tails

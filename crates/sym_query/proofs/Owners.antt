@@ -1,5 +1,5 @@
 -- The owner of a DNAME record that decides at a name with its tail is at or above the known name.
-use Rattle.std.proofs.Common.{◌≡◌, ℕ, ◌<◌, ◌≤◌, Bool, true, false, cond, ◌&&◌, List, [], ◌∷◌, ◌++◌, length, Option, Some, None, inl, inr, sym, ap, ◌∙◌, arith, append-nil, length-append}
+use Rattle.std.proofs.Common.{◌≡◌, ℕ, ◌<◌, ◌≤◌, true, ◌&&◌, List, [], ◌++◌, length, Option, Some, None, inl, inr, sym, ap, ◌∙◌, arith, append-nil, length-append}
 use Rattle.std.specs.Prelude.{nat_lt, nat_le}
 use Rattle.std.proofs.lemmas.Bool.{and_parts, ltb-true}
 use Rattle.std.proofs.lemmas.List.{nil_from_length}
@@ -10,14 +10,15 @@ use Rattle.dns_data.proofs.NameFronts.{Begins, is_prefix_told, two_fronts}
 use Rattle.name_rules.specs.SymName.{whole, tail_labels}
 use Rattle.name_rules.specs.declared.sym_name.SymName.{SymName}
 use Rattle.net_model.specs.declared.config.Zone.{Zone}
-use Rattle.net_model.specs.Lookup.{ByCut, ByRedirection, ByRecords, ByNothing, by_dname, zone_cut, dname_owner, closest_encloser, source_of_synthesis, synthesized, shorter_decides, decided, deciding}
+use Rattle.net_model.specs.Lookup.{zone_cut, dname_owner, deciding}
 use Rattle.net_model.specs.Prefix.{prefixes}
-use Rattle.net_model.specs.Zone.{owns, exists_in}
+use Rattle.net_model.specs.Zone.{owns}
 use Rattle.net_model.proofs.Prefixes.{from_prefixes}
 use Rattle.zone_tree.specs.declared.decider.Decider.{Decider}
-use Rattle.zone_tree.specs.declared.decider.Decider.TheVariants.{Cut, Redirection, Records, Nothing}
+use Rattle.zone_tree.specs.declared.decider.Decider.TheVariants.{Redirection}
 use Rattle.zone_tree.specs.Decider.{deciding_by}
 use Rattle.zone_tree.specs.Tree.{ZoneTree, name_of}
+use Rattle.zone_lookup.proofs.RedirectionTargets.{owner_decides}
 use Rattle.sym_query.specs.Answers.{RedirectsKnown}
 
 -- a DNAME owner is a proper prefix of the name
@@ -49,32 +50,11 @@ owner_of_known known owner tail (below, e) shorter =
           is_prefix_told owner known ([], append-nil owner ∙ sym (sym (append-nil known) ∙ ap (λ (x : Labels). known ++ x) (sym (nil_from_length beneath.0 none)) ∙ beneath.1)))
     ]
 
--- where a redirection decides, it is by the DNAME owner
-owner_decides : (zone : Zone) (name owner : Labels) (target : Option Labels) (cut first : Option Labels)
-    → decided zone name (shorter_decides zone cut first) ≡ ByRedirection owner target → first ≡ Some owner
-owner_decides zone name owner target (Some cut) None e = cc
-owner_decides zone name owner target (Some cut) (Some first) e = by (nat_lt (length first) (length cut)) e where
-  by : (b : Bool) → cond b (by_dname zone first) (ByCut cut) ≡ ByRedirection owner target → Some first ≡ Some owner
-  by true is = cc
-  by false is = cc
-owner_decides zone name owner target None (Some first) e = cc
-owner_decides zone name owner target None None e = by (exists_in zone name) (closest_encloser zone name) e where
-  source : (b : Bool) (encloser : Labels) → cond b (ByRecords (source_of_synthesis encloser)) ByNothing ≡ ByRedirection owner target → None ≡ Some owner
-  source true encloser is = cc
-  source false encloser is = cc
-
-  by : (b : Bool) (encloser : Option Labels) → cond b (ByRecords name) (synthesized zone encloser) ≡ ByRedirection owner target → None ≡ Some owner
-  by true encloser is = cc
-  by false None is = cc
-  by false (Some encloser) is = source (exists_in zone (source_of_synthesis encloser)) encloser is
-
 -- if a redirection decides, its node stands for a name at or above the known name
 pub redirects_known : (tree : ZoneTree) (decider : Decider) (name : SymName) → deciding tree.zone (whole name) ≡ deciding_by tree decider
     → RedirectsKnown tree decider name
-redirects_known tree (Cut node) name e = tt
-redirects_known tree (Records node) name e = tt
-redirects_known tree Nothing name e = tt
 redirects_known tree (Redirection node) name e =
     let proper = owner_is_proper tree.zone (whole name) (name_of tree node)
     (owner_decides tree.zone (whole name) (name_of tree node) _ (zone_cut tree.zone (whole name)) (dname_owner tree.zone (whole name)) e) in
     owner_of_known name.known (name_of tree node) name.tail proper.0 proper.1
+redirects_known tree other name e = tt

@@ -11,6 +11,7 @@ use Rattle.net_model.specs.declared.found.Found.TheVariants.{Rewrite, TooLong}
 use Rattle.net_model.specs.Lookup.{found}
 use Rattle.net_model.specs.OpenTail.{IsOpenTail}
 use Rattle.net_model.specs.Retail.{retailed_name}
+use Rattle.zone_lookup.specs.Alike.{HasSome, IsApart}
 use Rattle.sym_query.specs.declared.typed_found.TypedFound.{TypedFound}
 
 -- one of the answers is for the type
@@ -19,11 +20,7 @@ answers_type answers rtype = list_any (λ answer. has_bit answer.types rtype) an
 
 -- no type has two answers
 abbrev pub AreApart : List TypedFound → Type 0
-AreApart answers = AllPairs (λ a b. (rtype : RrType) → has_bit a.types rtype ≡ true → has_bit b.types rtype ≡ false) answers
-
--- the set has a type
-abbrev pub HasSome : List Bool → Type 0
-HasSome set = (rtype : RrType) × (has_bit set rtype ≡ true)
+AreApart answers = AllPairs (λ a b. IsApart a.types b.types) answers
 
 -- the answer is for some type
 abbrev pub AnswersSome : TypedFound → Type 0

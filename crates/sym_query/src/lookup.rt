@@ -35,8 +35,5 @@ pub fn find_sym(
     ensures open_tail { IfOk result (AllByRecursion (IsOpenExactly name.now)) }
     ensures all_tails { IfOk result (AllByRecursion (StandsForTails tree.now.zone name.now)) }
 {
-    if types.first().is_none() {
-        return Ok(List::new(alloc));
-    }
     answers_of(alloc, tree, decider_of(tree, name), name, types)
 }

@@ -2,11 +2,19 @@ mod AllFirsts
 pub mod CutsInside
 pub mod FirstsByName
 pub mod Glue
+mod GoingAlike
 pub mod InsideZones
+pub mod Leading
+pub mod ListedWalks
+pub mod NamesAtRest
 pub mod NearestZones
 mod OriginsBefore
 mod PlacesNear
+pub mod RedirectionTargets
 pub mod ReferralParts
+pub mod Replying
 mod Rewriting
 pub mod SoundReferrals
+pub mod TopsHolding
+pub mod TypeSets
 pub mod ZonesTell

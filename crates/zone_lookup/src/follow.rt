@@ -5,10 +5,11 @@ ghost use Rattle.dns_data.specs.Name.{is_prefix};
 ghost use Rattle.net_model.specs.Nearest.{is_top};
 ghost use Rattle.net_model.specs.Step.{has_glue, may_follow};
 ghost use Rattle.net_model.specs.Zone.{has_address};
+ghost use Rattle.zone_lookup.specs.LentCut.{cut_of};
 ghost use Rattle.zone_tree.specs.Tree.{IsNode, name_of};
 
 use crate::hosts::Hosts;
-use crate::learnt_sets::LearntSets;
+use crate::lent_cut::LentCut;
 use dns_data::{Name, RrType};
 use net_model::{Cut, is_among, may_follow};
 use zone_tree::{NodeId, Tree};
@@ -23,42 +24,31 @@ impl<'a> Hosts<'a> {
         if !cut.zone.is_prefix_of(&cut.cut) {
             return may_follow(self.config(), cut, followed);
         }
-        self.is_known(cut) || is_among(followed, &cut.ns)
+        self.is_known(LentCut::of(cut)) || is_among(followed, &cut.ns)
     }
 
     /// Whether the address of the cut's name server is known whatever is learnt: it is a top server, or it has glue in that
     /// referral.
-    pub(crate) fn is_known(&self, cut: &Cut) -> bool
-        requires { is_prefix cut.now.zone cut.now.cut ≡ true }
-        ensures { result ≡ (is_top self.now cut.now.ns || has_glue self.now cut.now) }
+    pub(crate) fn is_known(&self, cut: LentCut<'_>) -> bool
+        requires { is_prefix cut.zone.now cut.cut.now ≡ true }
+        ensures { result ≡ (is_top self.now cut.entry.ns.now || has_glue self.now (cut_of cut.entry)) }
     {
-        is_among(self.config().tops.items(), &cut.ns) || self.has_glue(cut)
+        is_among(self.config().tops.items(), cut.ns) || self.has_glue(cut)
     }
 
     /// Whether the name server has glue in the referral: it is at or below the zone cut, and the referring zone holds an
     /// address of it.
-    pub fn has_glue(&self, cut: &Cut) -> bool
-        requires { is_prefix cut.now.zone cut.now.cut ≡ true }
-        ensures { result ≡ has_glue self.now cut.now }
+    pub fn has_glue(&self, cut: LentCut<'_>) -> bool
+        requires { is_prefix cut.zone.now cut.cut.now ≡ true }
+        ensures { result ≡ has_glue self.now (cut_of cut.entry) }
     {
-        if !cut.cut.is_prefix_of(&cut.ns) {
+        if !cut.cut.is_prefix_of(cut.ns) {
             return false;
         }
-        match self.held_zone(&cut.server, &cut.zone) {
-            Some(tree) => has_address(tree, &cut.ns),
+        match self.held_zone(cut.server, cut.zone) {
+            Some(tree) => has_address(tree, cut.ns),
             None => false,
         }
-    }
-}
-
-impl LearntSets {
-    /// Whether the address of the cut's name server is known: it is a top server, it has glue in that referral, or it is in
-    /// the least set.
-    pub fn may_follow(&self, hosts: &Hosts<'_>, cut: &Cut) -> bool
-        requires { is_prefix cut.now.zone cut.now.cut ≡ true }
-        ensures { result ≡ may_follow hosts.now cut.now self.now.least }
-    {
-        hosts.is_known(cut) || self.has_least(&cut.ns)
     }
 }
 

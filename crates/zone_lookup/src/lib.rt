@@ -1,10 +1,12 @@
-//! The lookup of a name and a type in a zone, the servers of a configuration with the trees of their zones, the steps
-//! of a walk from server to server, and what the zones and the learnt addresses tell of a referral.
+//! What a server replies to a name, where a referral leads, the steps of a walk from server to server, and what the zones
+//! and the learnt addresses tell of a referral.
 //!
-//! The layer above may rest on this: `find` answers what the definition `found` says of the zone; `Hosts` finds a
-//! server, a zone by its origin and the nearest zone of a name as the definitions do, and tells which name servers may
+//! The layer above may rest on this: `reply_of` gives what decides at a name in the zone in which a server looks it up, and
+//! `Walker::leads` where a referral to a name server leads, as the definitions do; neither takes memory. `next_steps` gives
+//! the steps of a state by its server's reply, and `steps_of` those of a state, as the definition `next` does. `Hosts` finds
+//! a server, a zone by its origin and the nearest zone of a name as the definitions do, and tells which name servers may
 //! be followed. It gives all servers, and a server all trees, where no two have one name or one origin. `starts` gives
-//! the states in which a query begins, and `after_lookup` the steps of a state, as the definitions do. `put_cut_faults`
+//! the states in which a query begins. `put_cut_faults`
 //! puts what a referral shows, whatever comes behind it, as the definitions say: whether the two zones list other name
 //! servers or hold other addresses, whether glue is missing, and whether the name server's address depends on itself
 //! (`LearntSets` has the learnt addresses); one that `is_sound` lets pass shows none of these.
@@ -22,28 +24,39 @@
 //! the top servers.
 #![tactic(auto)]
 
+mod alike;
 mod ends;
 mod firsts;
 mod follow;
 mod hosts;
+mod leads;
 mod learnt_sets;
+mod lent_cut;
 mod lookup;
 mod named;
-mod redirection;
 mod referral_faults;
+mod reply;
+mod resting;
 mod rewrites;
 mod sides;
 mod sound;
 mod steps;
+mod tops;
 mod walker;
 
+pub use alike::{one_set, split_by, split_types};
 pub use ends::gives_address;
 pub use follow::has_glue_below;
 pub use hosts::{Host, Hosts, Near};
+pub use leads::Lead;
 pub use learnt_sets::{LearntSets, set_of};
+pub use lent_cut::LentCut;
 pub use lookup::find;
 pub use named::{Named, nearest_item};
 pub use referral_faults::put_cut_faults;
+pub use reply::{Reply, reply_in, reply_near, reply_of};
+pub use resting::learnt_at_tops;
 pub use rewrites::starts;
-pub use steps::{Step, after_lookup, outside};
+pub use steps::{Step, next_steps, steps_of};
+pub use tops::TopServers;
 pub use walker::Walker;

@@ -4,8 +4,8 @@ ghost use Rattle.std.specs.Prelude.{◌≡◌, true, IfOk};
 ghost use Rattle.dns_data.specs.Name.{is_prefix};
 ghost use Rattle.net_model.specs.Lookup.{found};
 
-use crate::redirection::redirected;
 use dns_data::{Name, NoMemory, RrType};
+use name_rules::redirected;
 use net_model::Found;
 use std::alloc::Global;
 use zone_tree::{Decider, Tree, at_name, deciding, referral};
@@ -18,7 +18,12 @@ pub fn find(alloc: Global, tree: &Tree<'_>, name: &Name, t: RrType) -> Result<Fo
 {
     match deciding(tree, name) {
         Decider::Cut(cut) => referral(alloc, tree, cut),
-        Decider::Redirection(owner) => redirected(alloc, tree, owner, name),
+        Decider::Redirection(owner) => redirected(
+            alloc,
+            name,
+            tree.name(owner),
+            tree.redirection(owner),
+        ),
         Decider::Records(owner) => at_name(alloc, tree, owner, t),
         Decider::Nothing => Ok(Found::NxDomain),
     }

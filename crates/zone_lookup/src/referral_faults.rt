@@ -7,6 +7,7 @@ ghost use Rattle.zone_lookup.specs.ReferralFaults.{cut_faults, if_shown, referra
 
 use crate::hosts::Hosts;
 use crate::learnt_sets::LearntSets;
+use crate::lent_cut::LentCut;
 use crate::sides::{addresses_differ, zones_differ};
 use crate::sound::{depends_on_itself, wants_glue};
 use dns_data::{List, NoMemory};
@@ -43,13 +44,14 @@ fn put_referral(
     requires { is_prefix cut.now.zone cut.now.cut ≡ true }
     ensures { OnOk result (faults.new ≡ faults.old ++ referral_faults hosts.now sets.now cut.now) }
 {
-    let differs = zones_differ(hosts, cut);
+    let lent = LentCut::of(cut);
+    let differs = zones_differ(hosts, lent);
     put_shown(alloc, differs, Fault::Differs, cut, faults)?;
-    let no_glue = wants_glue(hosts, cut);
+    let no_glue = wants_glue(hosts, lent);
     put_shown(alloc, no_glue, Fault::NoGlue, cut, faults)?;
-    let glue_differs = addresses_differ(alloc, hosts, cut)?;
+    let glue_differs = addresses_differ(alloc, hosts, lent)?;
     put_shown(alloc, glue_differs, Fault::GlueDiffers, cut, faults)?;
-    let cyclic = depends_on_itself(hosts, sets, cut);
+    let cyclic = depends_on_itself(hosts, sets, lent);
     put_shown(alloc, cyclic, Fault::Cyclic, cut, faults)
 }
 

@@ -6,48 +6,49 @@ ghost use Rattle.std.specs.Prelude.{◌≡◌, true, map, IfOk};
 ghost use Rattle.dns_data.specs.Name.{is_prefix};
 ghost use Rattle.dns_data.specs.Rdata.{data_eq};
 ghost use Rattle.net_model.specs.Zone.{addresses, ns_names};
+ghost use Rattle.zone_lookup.specs.LentCut.{cut_of};
 ghost use Rattle.zone_lookup.specs.Sides.{addresses_differ, both_differ, names_eq, zones_differ};
 
 use crate::hosts::Hosts;
+use crate::lent_cut::LentCut;
 use dns_data::{List, Name, NoMemory, Rdata};
-use net_model::Cut;
 use std::alloc::Global;
 use zone_tree::Tree;
 
 /// Whether the delegated zone lists other name servers than the referring one.
-pub(crate) fn zones_differ(hosts: &Hosts<'_>, cut: &Cut) -> bool
-    requires { is_prefix cut.now.zone cut.now.cut ≡ true }
-    ensures { result ≡ zones_differ hosts.now cut.now }
+pub(crate) fn zones_differ(hosts: &Hosts<'_>, cut: LentCut<'_>) -> bool
+    requires { is_prefix cut.zone.now cut.cut.now ≡ true }
+    ensures { result ≡ zones_differ hosts.now (cut_of cut.entry) }
 {
-    let Some(above) = hosts.held_zone(&cut.server, &cut.zone) else {
+    let Some(above) = hosts.held_zone(cut.server, cut.zone) else {
         return false;
     };
-    let Some(below) = hosts.held_zone(&cut.ns, &cut.cut) else {
+    let Some(below) = hosts.held_zone(cut.ns, cut.cut) else {
         return false;
     };
-    !same_names(servers_at(above, &cut.cut), servers_at(below, &cut.cut))
+    !same_names(servers_at(above, cut.cut), servers_at(below, cut.cut))
 }
 
 /// Whether the name server is at or below the cut, and both zones hold addresses of it, and not the same ones.
 pub(crate) fn addresses_differ(
     alloc: Global,
     hosts: &Hosts<'_>,
-    cut: &Cut,
+    cut: LentCut<'_>,
 ) -> Result<bool, NoMemory>
-    requires { is_prefix cut.now.zone cut.now.cut ≡ true }
-    ensures { IfOk result (λ differ. differ ≡ addresses_differ hosts.now cut.now) }
+    requires { is_prefix cut.zone.now cut.cut.now ≡ true }
+    ensures { IfOk result (λ differ. differ ≡ addresses_differ hosts.now (cut_of cut.entry)) }
 {
-    if !cut.cut.is_prefix_of(&cut.ns) {
+    if !cut.cut.is_prefix_of(cut.ns) {
         return Ok(false);
     }
-    let Some(above) = hosts.held_zone(&cut.server, &cut.zone) else {
+    let Some(above) = hosts.held_zone(cut.server, cut.zone) else {
         return Ok(false);
     };
-    let Some(below) = hosts.held_zone(&cut.ns, &cut.cut) else {
+    let Some(below) = hosts.held_zone(cut.ns, cut.cut) else {
         return Ok(false);
     };
-    let glue = addresses_at(alloc, above, &cut.ns)?;
-    let own = addresses_at(alloc, below, &cut.ns)?;
+    let glue = addresses_at(alloc, above, cut.ns)?;
+    let own = addresses_at(alloc, below, cut.ns)?;
     Ok(both_differ(glue.items(), own.items()))
 }
 

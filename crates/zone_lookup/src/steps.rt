@@ -1,18 +1,30 @@
 //! One step of a walk.
 
-ghost use Rattle.std.specs.Prelude.{◌≡◌, ◌∷◌, [], map, None, Some, IfOk};
-ghost use Rattle.net_model.specs.declared.config.Zone.{Zone};
+ghost use Rattle.std.specs.Prelude.{◌≡◌, ◌∷◌, [], true, map, None, Some, IfOk, if◌then◌else◌};
+ghost use Rattle.dns_data.specs.Name.{Labels, is_prefix};
+ghost use Rattle.dns_data.specs.RrType.{type_eq};
+ghost use Rattle.dns_data.specs.declared.rr_type.RrType.TheVariants as types;
 ghost use Rattle.net_model.specs.declared.found.Found.TheVariants as found_as;
 ghost use Rattle.net_model.specs.declared.walk.Hop.TheVariants as hop_as;
-ghost use Rattle.net_model.specs.declared.walk.Leaf.TheVariants.{Outside};
-ghost use Rattle.net_model.specs.Step.{End, after_lookup, delegated, referred};
+ghost use Rattle.net_model.specs.declared.walk.State.{State as StateValue};
+ghost use Rattle.net_model.specs.Lookup.{aliased, answer_of, redirected};
+ghost use Rattle.net_model.specs.Step.{Setting, End, after_lookup, next, referred};
+ghost use Rattle.net_model.specs.Zone.{ns_names};
+ghost use Rattle.zone_lookup.specs.LentCut.{cut_of};
+ghost use Rattle.zone_lookup.specs.Reply.{IsReply};
 ghost use Rattle.zone_lookup.specs.Steps.{branch_of};
+ghost use Rattle.zone_tree.specs.Tree.{IsNode, name_of};
 
+use crate::leads::Lead;
+use crate::lent_cut::LentCut;
+use crate::reply::{Reply, reply_in};
 use crate::rewrites::rewrites;
 use crate::walker::Walker;
-use dns_data::{Boxed, List, Name, NoMemory};
-use net_model::{Cut, Found, Hop, Leaf, Place, State};
+use dns_data::{Boxed, JoinFault, List, Name, NoMemory, Rdata, RrType, copied_data};
+use name_rules::substitute;
+use net_model::{Cut, Hop, Leaf, Place, State};
 use std::alloc::Global;
+use zone_tree::{NodeId, Tree};
 
 /// What a state leads to: a next state by a hop, or an end. Each stands in memory of its own from where it is made to where
 /// it is kept, so that a step takes a few octets wherever it is moved.
@@ -22,36 +34,103 @@ pub enum Step {
     End(Option<Boxed<Hop>>, Boxed<Leaf>),
 }
 
-/// The steps of a state whose server holds no zone for the name.
-pub fn outside(alloc: Global) -> Result<List<Step>, NoMemory>
-    ensures { IfOk result (λ steps. map branch_of steps ≡ End None Outside ∷ []) }
-{
-    ended(alloc, Leaf::Outside)
-}
-
-/// The steps of a state, in order, by what its server finds in the zone with this origin.
-pub fn after_lookup(
+/// The steps of a state with a type, in order.
+pub fn steps_of(
     alloc: Global,
     walker: &Walker<'_, '_>,
     state: &State,
-    origin: &Name,
-    found: Found,
+    rtype: RrType,
 ) -> Result<List<Step>, NoMemory>
-    ensures { IfOk result (λ steps. map branch_of steps ≡ after_lookup walker.now state.now origin.now found) }
+    ensures { IfOk result (λ steps. map branch_of steps ≡ next walker.now rtype state.now) }
 {
-    match found {
-        Found::Answer(rdata) => ended(alloc, Leaf::Answer(rdata)),
-        Found::NoData => ended(alloc, Leaf::NoData),
-        Found::NxDomain => ended(alloc, Leaf::NxDomain),
-        Found::Referral { cut, names } => {
-            referrals(alloc, walker, state, origin, &cut, names.items())
+    match walker.hosts().nearest_of(&state.server, &state.name) {
+        Some(tree) => {
+            let reply = reply_in(tree, &state.name);
+            next_steps(alloc, walker, state, &reply, rtype)
+        },
+        None => ended(alloc, Leaf::Outside),
+    }
+}
+
+/// The steps of a state with a type, in order, by what its server replies to its name.
+#[tactic(auto, using(crate::proofs::Replying::outside_ends, crate::proofs::Replying::nothing_ends, crate::proofs::Replying::refers_on, crate::proofs::Replying::refers_inside, crate::proofs::Replying::redirects_on, crate::proofs::Replying::alias_leads, crate::proofs::Replying::records_answer))]
+pub fn next_steps(
+    alloc: Global,
+    walker: &Walker<'_, '_>,
+    state: &State,
+    reply: &Reply<'_, '_>,
+    rtype: RrType,
+) -> Result<List<Step>, NoMemory>
+    requires { IsReply walker.now.config state.now.server state.now.name reply.now }
+    ensures { IfOk result (λ steps. map branch_of steps ≡ next walker.now rtype state.now) }
+{
+    match *reply {
+        Reply::Outside => ended(alloc, Leaf::Outside),
+        Reply::Refers(tree, cut) => referrals(alloc, walker, state, tree, cut),
+        Reply::Redirects(tree, owner, target) => {
+            redirected(alloc, walker, state, tree, owner, target)
         }
-        Found::Rewrite {
-            by_dname,
-            owner,
-            to,
-        } => renamed(alloc, walker, state, origin, by_dname, owner, to),
-        Found::TooLong { owner } => overlong(alloc, walker, state, origin, owner),
+        Reply::Alias(tree, owner, target) => {
+            aliased(alloc, walker, state, tree, owner, target, rtype)
+        }
+        Reply::Records(tree, owner) => answered(alloc, tree.set(owner, rtype)),
+        Reply::Nothing(_) => ended(alloc, Leaf::NxDomain),
+    }
+}
+
+/// The steps of a state whose name is an alias of this target, by a record of the owner (RFC 1034 section 3.6.2).
+fn aliased(
+    alloc: Global,
+    walker: &Walker<'_, '_>,
+    state: &State,
+    tree: &Tree<'_>,
+    owner: NodeId,
+    target: &Name,
+    rtype: RrType,
+) -> Result<List<Step>, NoMemory>
+    requires { IsNode tree.now owner }
+    ensures { IfOk result (λ steps. map branch_of steps ≡ after_lookup walker.now state.now tree.now.zone.origin (aliased tree.now.zone (name_of tree.now owner) rtype (if type_eq rtype types.Cname then None else Some target.now))) }
+{
+    if rtype.number() == RrType::Cname.number() {
+        return answered(alloc, tree.set(owner, rtype));
+    }
+    renamed(
+        alloc,
+        walker,
+        state,
+        tree,
+        owner,
+        false,
+        target.copy(alloc)?,
+    )
+}
+
+/// The step to the end in these data of a type, or in that there are none.
+fn answered(alloc: Global, items: &[Rdata]) -> Result<List<Step>, NoMemory>
+    ensures { IfOk result (λ steps. (setting : Setting) (state : StateValue) (origin : Labels) → map branch_of steps ≡ after_lookup setting state origin (answer_of items.now)) }
+{
+    if items.is_empty() {
+        return ended(alloc, Leaf::NoData);
+    }
+    ended(alloc, Leaf::Answer(copied_data(alloc, items)?))
+}
+
+/// The steps of a state whose name a DNAME record of the owner with this target redirects (RFC 6672 section 2.2).
+fn redirected(
+    alloc: Global,
+    walker: &Walker<'_, '_>,
+    state: &State,
+    tree: &Tree<'_>,
+    owner: NodeId,
+    target: &Name,
+) -> Result<List<Step>, NoMemory>
+    requires { IsNode tree.now owner }
+    ensures { IfOk result (λ steps. map branch_of steps ≡ after_lookup walker.now state.now tree.now.zone.origin (redirected state.now.name (name_of tree.now owner) (Some target.now))) }
+{
+    match substitute(alloc, &state.name, tree.name(owner), target) {
+        Ok(to) => renamed(alloc, walker, state, tree, owner, true, to),
+        Err(JoinFault::TooLong) => overlong(alloc, walker, state, tree, owner),
+        Err(JoinFault::NoMemory) => Err(NoMemory),
     }
 }
 
@@ -60,14 +139,15 @@ fn renamed(
     alloc: Global,
     walker: &Walker<'_, '_>,
     state: &State,
-    origin: &Name,
+    tree: &Tree<'_>,
+    owner: NodeId,
     by_dname: bool,
-    owner: Name,
     to: Name,
 ) -> Result<List<Step>, NoMemory>
-    ensures { IfOk result (λ steps. map branch_of steps ≡ after_lookup walker.now state.now origin.now (found_as.Rewrite by_dname owner to)) }
+    requires { IsNode tree.now owner }
+    ensures { IfOk result (λ steps. map branch_of steps ≡ after_lookup walker.now state.now tree.now.zone.origin (found_as.Rewrite by_dname (name_of tree.now owner) to)) }
 {
-    let place = place_at(alloc, state, origin, owner)?;
+    let place = place_at(alloc, state, tree, owner)?;
     if state.used < walker.rewrites() {
         rewrites(alloc, walker, state, place, by_dname, to)
     } else {
@@ -80,12 +160,13 @@ fn overlong(
     alloc: Global,
     walker: &Walker<'_, '_>,
     state: &State,
-    origin: &Name,
-    owner: Name,
+    tree: &Tree<'_>,
+    owner: NodeId,
 ) -> Result<List<Step>, NoMemory>
-    ensures { IfOk result (λ steps. map branch_of steps ≡ after_lookup walker.now state.now origin.now (found_as.TooLong owner)) }
+    requires { IsNode tree.now owner }
+    ensures { IfOk result (λ steps. map branch_of steps ≡ after_lookup walker.now state.now tree.now.zone.origin (found_as.TooLong (name_of tree.now owner))) }
 {
-    let place = place_at(alloc, state, origin, owner)?;
+    let place = place_at(alloc, state, tree, owner)?;
     if state.used < walker.rewrites() {
         ended(alloc, Leaf::Overlong(place))
     } else {
@@ -110,14 +191,15 @@ pub(crate) fn one_step(alloc: Global, step: Step) -> Result<List<Step>, NoMemory
     Ok(List::from_vec(steps))
 }
 
-/// The place of a rewrite.
-fn place_at(alloc: Global, state: &State, origin: &Name, owner: Name) -> Result<Place, NoMemory>
-    ensures { IfOk result (λ place. place ≡ record { server = state.now.server; zone = origin.now; owner = owner }) }
+/// The place of a rewrite by a record of the owner.
+fn place_at(alloc: Global, state: &State, tree: &Tree<'_>, owner: NodeId) -> Result<Place, NoMemory>
+    requires { IsNode tree.now owner }
+    ensures { IfOk result (λ place. place ≡ record { server = state.now.server; zone = tree.now.zone.origin; owner = name_of tree.now owner }) }
 {
     Ok(Place {
         server: state.server.copy(alloc)?,
-        zone: origin.copy(alloc)?,
-        owner,
+        zone: tree.zone().origin.copy(alloc)?,
+        owner: tree.name(owner).copy(alloc)?,
     })
 }
 
@@ -126,79 +208,51 @@ fn referrals(
     alloc: Global,
     walker: &Walker<'_, '_>,
     state: &State,
-    origin: &Name,
-    cut: &Name,
-    names: &[Name],
+    tree: &Tree<'_>,
+    cut: NodeId,
 ) -> Result<List<Step>, NoMemory>
-    ensures { IfOk result (λ steps. map branch_of steps ≡ map (λ ns. referred walker.now state.now (record { server = state.now.server; zone = origin.now; cut = cut.now; ns = ns })) names.now) }
+    requires node { IsNode tree.now cut }
+    requires inside { is_prefix tree.now.zone.origin (name_of tree.now cut) ≡ true }
+    ensures { IfOk result (λ steps. map branch_of steps ≡ map (λ ns. referred walker.now state.now (record { server = state.now.server; zone = tree.now.zone.origin; cut = name_of tree.now cut; ns = ns })) (ns_names tree.now.zone (name_of tree.now cut))) }
 {
+    let names = tree.name_servers(cut);
     let mut steps = Vec::with_capacity(alloc, names.len())?;
     for ns in names {
-        let cut = cut_at(alloc, state, origin, cut, ns)?;
+        let cut = LentCut {
+            server: &state.server,
+            zone: &tree.zone().origin,
+            cut: tree.name(cut),
+            ns,
+        };
         steps.push(referred(alloc, walker, state, cut)?)?;
     }
     Ok(List::from_vec(steps))
 }
 
-/// One name server of the referral of a state's server.
-fn cut_at(
-    alloc: Global,
-    state: &State,
-    origin: &Name,
-    cut: &Name,
-    ns: &Name,
-) -> Result<Cut, NoMemory>
-    ensures { IfOk result (λ made. made ≡ record { server = state.now.server; zone = origin.now; cut = cut.now; ns = ns.now }) }
-{
-    Ok(Cut {
-        server: state.server.copy(alloc)?,
-        zone: origin.copy(alloc)?,
-        cut: cut.copy(alloc)?,
-        ns: ns.copy(alloc)?,
-    })
-}
-
 /// The step to one name server of a referral.
+#[tactic(auto, using(crate::proofs::Leading::refers_by))]
 fn referred(
     alloc: Global,
     walker: &Walker<'_, '_>,
     state: &State,
-    cut: Cut,
+    cut: LentCut<'_>,
 ) -> Result<Step, NoMemory>
-    ensures { IfOk result (λ step. branch_of step ≡ referred walker.now state.now cut) }
+    requires { is_prefix cut.zone.now cut.cut.now ≡ true }
+    ensures { IfOk result (λ step. branch_of step ≡ referred walker.now state.now (cut_of cut.entry)) }
 {
+    let lead = walker.leads(cut, &state.name);
     let ns = cut.ns.copy(alloc)?;
-    let Some(host) = walker.hosts().host(&cut.ns) else {
-        return ended_at(alloc, cut, Leaf::Unhosted(ns));
-    };
-    if !walker.may_follow(&cut) {
-        return ended_at(alloc, cut, Leaf::NoAddress(ns));
+    let cut = cut.copy(alloc)?;
+    match lead {
+        Lead::Unhosted => ended_at(alloc, cut, Leaf::Unhosted(ns)),
+        Lead::NoAddress => ended_at(alloc, cut, Leaf::NoAddress(ns)),
+        Lead::Lame => ended_at(alloc, cut, Leaf::Lame(ns)),
+        Lead::Goes(tree) => {
+            let to = below_cut(alloc, state, ns, cut.cut.len(), &tree.zone().origin)?;
+            let hop = Boxed::new(alloc, Hop::Refer(cut))?;
+            Ok(Step::Go(hop, to))
+        }
     }
-    match host.nearest(&state.name) {
-        Some(tree) => delegated(alloc, state, cut, ns, &tree.zone().origin),
-        None => ended_at(alloc, cut, Leaf::Lame(ns)),
-    }
-}
-
-/// The step to a name server whose nearest zone for the name has this origin.
-fn delegated(
-    alloc: Global,
-    state: &State,
-    cut: Cut,
-    ns: Name,
-    origin: &Name,
-) -> Result<Step, NoMemory>
-    requires { ns ≡ cut.ns }
-    ensures { IfOk result (λ step. (zone : Zone) → zone.origin ≡ origin.now → branch_of step ≡ delegated state.now cut (Some zone)) }
-{
-    if !cut.cut.is_prefix_of(origin) {
-        // Named, since the proof speaks of the step that comes where memory suffices.
-        let end = ended_at(alloc, cut, Leaf::Lame(ns))?;
-        return Ok(end);
-    }
-    let to = below_cut(alloc, state, ns, cut.cut.len(), origin)?;
-    let hop = Boxed::new(alloc, Hop::Refer(cut))?;
-    Ok(Step::Go(hop, to))
 }
 
 /// The step that ends the walk at a name server.

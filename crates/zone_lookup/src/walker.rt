@@ -1,12 +1,16 @@
 //! What the steps of a walk depend on.
 
 ghost use Rattle.std.specs.Prelude.{◌≡◌, true};
+ghost use Rattle.dns_data.specs.Name.{is_prefix};
 ghost use Rattle.net_model.specs.Nearest.{is_configured, server_names};
 ghost use Rattle.net_model.specs.Step.{following, may_follow};
+ghost use Rattle.zone_lookup.specs.LentCut.{cut_of};
 
 use crate::hosts::Hosts;
+use crate::learnt_sets::LearntSets;
+use crate::lent_cut::LentCut;
 use dns_data::Name;
-use net_model::Cut;
+use net_model::is_among;
 use std::marker::Model;
 
 /// The name servers that may be followed though neither a top server nor glue gives their address.
@@ -14,6 +18,7 @@ use std::marker::Model;
 enum Followed<'h> {
     Configured,
     Named(&'h [Name]),
+    Least(&'h LearntSets),
 }
 
 /// The servers of a configuration, how many rewrites a walk may use, and the name servers that may be followed though
@@ -57,6 +62,21 @@ impl<'h, 'a> Walker<'h, 'a> {
         }
     }
 
+    /// What walks depend on while the servers of the least set are followed.
+    pub fn following_least(
+        hosts: &'h Hosts<'a>,
+        rewrites: u32,
+        sets: &'h LearntSets,
+    ) -> Walker<'h, 'a>
+        ensures { result ≡ following hosts.entry.now rewrites sets.entry.now.least }
+    {
+        Walker {
+            hosts,
+            rewrites,
+            followed: Followed::Least(sets),
+        }
+    }
+
     /// The servers of the configuration.
     pub fn hosts(&self) -> &'h Hosts<'a>
         ensures { result.now ≡ self.now.config }
@@ -72,13 +92,15 @@ impl<'h, 'a> Walker<'h, 'a> {
     }
 
     /// Whether the address of the cut's name server, which is a configured server, is known.
-    pub(crate) fn may_follow(&self, cut: &Cut) -> bool
-        requires { is_configured self.now.config cut.now.ns ≡ true }
-        ensures { result ≡ may_follow self.now.config cut.now self.now.followed }
+    pub(crate) fn may_follow(&self, cut: LentCut<'_>) -> bool
+        requires configured { is_configured self.now.config cut.ns.now ≡ true }
+        requires inside { is_prefix cut.zone.now cut.cut.now ≡ true }
+        ensures { result ≡ may_follow self.now.config (cut_of cut.entry) self.now.followed }
     {
         match self.followed {
             Followed::Configured => true,
-            Followed::Named(names) => self.hosts.may_follow(cut, names),
+            Followed::Named(names) => self.hosts.is_known(cut) || is_among(names, cut.ns),
+            Followed::Least(sets) => self.hosts.is_known(cut) || sets.has_least(cut.ns),
         }
     }
 }

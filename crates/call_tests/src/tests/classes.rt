@@ -2,8 +2,8 @@
 
 use super::configs::{alone, name, spells};
 use dns_data::{Name, NameFault, NoMemory};
-use label_graph::{BaseNames, LabelGraph, base_of};
-use net_model::{Class, Config};
+use label_graph::LabelGraph;
+use net_model::Class;
 use query_classes::{children, class_of, representative};
 use std::alloc::Global;
 use std::test::Fail;
@@ -14,13 +14,7 @@ fn wildcard_graph(alloc: Global) -> Result<LabelGraph, Fail> {
         alloc,
         "t. 60 SOA ns.t. h.t. 1 2 3 4 5\n*.a.t. 60 CNAME foo.a.t.\n",
     )?;
-    Ok(graph_by_names(alloc, &config)?)
-}
-
-/// The graph of the configuration's base names and redirections.
-fn graph_by_names(alloc: Global, config: &Config) -> Result<LabelGraph, NoMemory> {
-    let BaseNames { names, dnames } = base_of(alloc, config)?;
-    LabelGraph::build(alloc, names.into_vec(), dnames.items())
+    Ok(LabelGraph::of_config(alloc, &config)?)
 }
 
 // A name that is named is alone, any other is in the class below its longest named prefix. The first label that is free

@@ -17,11 +17,11 @@ use std::test::Fail;
 use zone_lookup::Hosts;
 
 /// Metadata of the top server `ns.t.` alone, with one zone file.
-pub const ALONE: &str =
+pub(crate) const ALONE: &str =
     "{\"TopNameServers\":[\"ns.t.\"],\"ZoneFiles\":[{\"FileName\":\"t.zone\",\"NameServer\":\"ns.t.\"}]}";
 
 /// The metadata as `m.json` and zone files, each a name and its text. The reads with these numbers fail, counted from 1.
-pub fn files(
+pub(crate) fn files(
     alloc: Global,
     metadata: &str,
     zones: &[(&str, &str)],
@@ -36,28 +36,32 @@ pub fn files(
 }
 
 /// The configuration that the metadata give with these zone files.
-pub fn loaded(alloc: Global, metadata: &str, zones: &[(&str, &str)]) -> Result<Config, Fail> {
+pub(crate) fn loaded(
+    alloc: Global,
+    metadata: &str,
+    zones: &[(&str, &str)],
+) -> Result<Config, Fail> {
     let mut files = files(alloc, metadata, zones, List::new(alloc))?;
     Ok(load(alloc, &mut files, "m.json")?)
 }
 
 /// The configuration of the top server `ns.t.` alone, with a zone of this text.
-pub fn alone(alloc: Global, zone: &str) -> Result<Config, Fail> {
+pub(crate) fn alone(alloc: Global, zone: &str) -> Result<Config, Fail> {
     loaded(alloc, ALONE, &[("t.zone", zone)])
 }
 
 /// The first server's first zone.
-pub fn first_zone(config: &Config) -> Option<&Zone> {
+pub(crate) fn first_zone(config: &Config) -> Option<&Zone> {
     config.servers.items().first()?.zones.items().first()
 }
 
 /// The name that a text spells.
-pub fn name(alloc: Global, text: &str) -> Result<Name, NameFault> {
+pub(crate) fn name(alloc: Global, text: &str) -> Result<Name, NameFault> {
     Name::from_text(alloc, text.as_bytes(), &Name::root())
 }
 
 /// Whether the text spells the name.
-pub fn spells(alloc: Global, text: &str, spelt: &Name) -> bool {
+pub(crate) fn spells(alloc: Global, text: &str, spelt: &Name) -> bool {
     match name(alloc, text) {
         Ok(name) => name == *spelt,
         Err(_) => false,
@@ -65,7 +69,7 @@ pub fn spells(alloc: Global, text: &str, spelt: &Name) -> bool {
 }
 
 /// The graph of a query's walks, while every configured server is followed.
-pub fn graph_of(alloc: Global, hosts: &Hosts<'_>, query: Name) -> Result<Graph, GraphFault>
+pub(crate) fn graph_of(alloc: Global, hosts: &Hosts<'_>, query: Name) -> Result<Graph, GraphFault>
     ensures { IfOk result (IsGraphOf (following hosts.now 12 (server_names hosts.now)) query) }
 {
     let asked = SymName {

@@ -4,7 +4,7 @@ use Rattle.std.specs.List.{fold}
 use Rattle.net_model.specs.declared.walk.Walk.{Walk}
 use Rattle.net_model.specs.Learnt.{gives_address, LearnsBy}
 use Rattle.plain_resolver.specs.Asked.{Asked}
-use Rattle.plain_resolver.proofs.Learning.{learns_told}
+use Rattle.zone_lookup.proofs.ListedWalks.{learns_told}
 use Rattle.plain_resolver.proofs.ShownWalks.{any_seen}
 use Rattle.plain_resolver.proofs.rounds.learns_by.Goals as goal
 

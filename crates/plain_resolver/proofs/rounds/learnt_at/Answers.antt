@@ -10,7 +10,7 @@ use Rattle.plain_resolver.proofs.Learning.{stays, next_round, next_few, all_more
 use Rattle.plain_resolver.proofs.rounds.learnt_at.Goals as goal
 
 pub learnt_while-requires : goal.learnt_while-requires
-learnt_while-requires c = c.in_ok-resting.ensures ∙ c.config-config.ensures
+learnt_while-requires c = c.in_ok-tops.ensures
 
 pub returns-then-eq-clause-rounds : goal.returns-then-eq-clause-rounds
 returns-then-eq-clause-rounds c =

@@ -8,7 +8,7 @@ use Rattle.query_verdicts.proofs.ServersTold.{AreSoFar, all_told, first_server, 
 use Rattle.query_verdicts.proofs.servers.servers_told.Goals as goal
 
 pub told_of-requires : goal.told_of-requires
-told_of-requires c = c.in_ok-resting.ensures ∙ c.config-config.ensures
+told_of-requires c = c.in_ok-tops.ensures
 
 pub loop-server-preserved : goal.loop-server-preserved
 loop-server-preserved c =

@@ -1,0 +1,20 @@
+use Rattle.std.proofs.Common.{◌≤◌, length, ap, inl, inr, arith}
+use Rattle.std.proofs.lemmas.Option.{IfSome_then}
+use Rattle.std.proofs.lemmas.Result.{IfOk-weaker}
+use Rattle.dns_data.specs.declared.rr_type.RrType.TheVariants as types
+use Rattle.net_model.specs.declared.config.Config.{Config}
+use Rattle.zone_lookup.proofs.NamesAtRest.{few_walks}
+use Rattle.plain_resolver.proofs.rounds.learnt_within.Goals as goal
+
+pub returns-clause-few : goal.returns-clause-few
+returns-clause-few c =
+    let config = c.args.hosts.now in
+    let name = c.args.name.now in
+    let fits : length config.tops ≤ c.args.most = omega (arith, c.if-count-most.false, c.count.ensures, ap (λ (x : Config). length x.tops) c.requires) in
+    IfOk-weaker c.learnt_at_tops.result _ _
+    (λ told so. IfSome_then told so
+    (λ learnt rests rewrites followed many. elim many [
+      | inl four ↦ few_walks config rewrites name learnt rests followed types.A c.args.most fits four
+      | inr six ↦ few_walks config rewrites name learnt rests followed types.Aaaa c.args.most fits six
+    ]))
+    c.learnt_at_tops.ensures
