@@ -13,10 +13,11 @@ use Rattle.net_model.specs.declared.walk.Leaf.TheVariants.{NxDomain}
 use Rattle.net_model.specs.declared.walk.State.{State}
 use Rattle.zone_tree.specs.Tree.{ZoneTree, name_of}
 use Rattle.straight_walks.specs.Answers.{ZoneOwner, alias_answering, answering_by, leaf_of, leaf_with, owner_leaf, sorted_data, zone_owner}
-use Rattle.straight_walks.specs.Searching.{AnswersAlong, AnswersAt, AnswersBehind, AnswersSo, IsAliasEnd, IsReply, state_at}
+use Rattle.zone_lookup.specs.Reply.{IsReply}
+use Rattle.straight_walks.specs.Searching.{AnswersAlong, AnswersAt, AnswersBehind, AnswersSo, IsAliasEnd, state_at}
 use Rattle.straight_walks.specs.declared.aliases.AliasEnd.{AliasEnd}
-use Rattle.straight_walks.specs.declared.server.Reply.TheVariants as reply
-use Rattle.straight_walks.proofs.Replies.{alias_answers, alias_goes, aliased_to, place}
+use Rattle.zone_lookup.specs.declared.reply.Reply.TheVariants as reply
+use Rattle.straight_walks.proofs.Replies.{alias_answers, alias_goes, aliased_to, place, records_end}
 
 -- the data of an owner say that the name exists
 data_exist : (found : List Rdata) → leaf_with found ≡ NxDomain → ⊥
@@ -25,23 +26,23 @@ data_exist (first ∷ rest) e = cc
 
 module _ (config : Config) (server name : Labels) (rewrites : ℕ) where
   -- aliases end at a name that the server answers by an owner's records
-  pub ends_at_records : (tree : Bor ZoneTree) (owner : ℕ) → IsReply config name server (reply.Records tree owner)
+  pub ends_at_records : (tree : Bor ZoneTree) (owner : ℕ) → IsReply config server name (reply.Records tree owner)
       → IsAliasEnd config server name rewrites (record { tree = tree; owner = owner; rewrites = rewrites })
   ends_at_records tree owner so =
       record {
-        node = so.0;
-        held = ap (λ (zone : Option Zone). is_some zone) so.1;
+        node = so.1.0;
+        held = ap (λ (zone : Option Zone). is_some zone) so.0;
         no_fewer = omega arith;
-        along = λ setting rtype state same enough other at named used. ([], omega arith, (so.3 setting rtype state same at named, λ is. absurd (data_exist (sorted_data tree.now.zone (name_of tree.now owner) rtype) is)));
+        along = λ setting rtype state same enough other at named used. ([], omega arith, (records_end config name server setting rtype state same at named tree owner so, λ is. absurd (data_exist (sorted_data tree.now.zone (name_of tree.now owner) rtype) is)));
       }
 
   -- aliases lead from an alias to the end to which they lead from its target, with one rewrite less before
-  pub leads_by_alias : (tree : Bor ZoneTree) (owner : ℕ) (target : Bor Labels) (end : AliasEnd) → IsReply config name server (reply.Alias tree owner target)
+  pub leads_by_alias : (tree : Bor ZoneTree) (owner : ℕ) (target : Bor Labels) (end : AliasEnd) → IsReply config server name (reply.Alias tree owner target)
       → IsAliasEnd config server target.now (rewrites + 1) end → IsAliasEnd config server name rewrites end
   leads_by_alias tree owner target end so on =
       record {
         node = on.node;
-        held = ap (λ (zone : Option Zone). is_some zone) so.1;
+        held = ap (λ (zone : Option Zone). is_some zone) so.0;
         no_fewer = omega (arith, on.no_fewer);
         along = λ setting rtype state same enough other at named used.
             let goes =
@@ -52,7 +53,7 @@ module _ (config : Config) (server name : Labels) (rewrites : ℕ) where
       }
 
   -- the end behind an alias's target, where one is given, is that of the alias
-  pub leads_on : (tree : Bor ZoneTree) (owner : ℕ) (target : Bor Labels) (given : Option AliasEnd) → IsReply config name server (reply.Alias tree owner target)
+  pub leads_on : (tree : Bor ZoneTree) (owner : ℕ) (target : Bor Labels) (given : Option AliasEnd) → IsReply config server name (reply.Alias tree owner target)
       → IfSome given (IsAliasEnd config server target.now (rewrites + 1)) → IfSome given (IsAliasEnd config server name rewrites)
   leads_on tree owner target None so on = tt
   leads_on tree owner target (Some end) so on = leads_by_alias tree owner target end so on
@@ -71,18 +72,18 @@ leaf_is tree owner rtype = ap (λ (one : ZoneOwner). owner_leaf one rtype) (one_
 -- to a name, behind rewrites
 module _ (config : Config) (server name : Labels) (rewrites : ℕ) where
   -- a server that replies with an owner's records answers the name, behind so many rewrites, by this owner
-  pub records_behind : (tree : Bor ZoneTree) (owner : ℕ) → IsReply config name server (reply.Records tree owner)
+  pub records_behind : (tree : Bor ZoneTree) (owner : ℕ) → IsReply config server name (reply.Records tree owner)
       → AnswersBehind config server name rewrites (answering_by tree.now (Some owner)) rewrites
   records_behind tree owner so setting rtype state same enough at named used = (
     [],
     omega arith,
     subst (λ (leaf : Leaf). AnswersAlong setting rtype leaf state []) (sym (leaf_is tree.now (Some owner) rtype))
-        (so.3 setting rtype state same at named, λ is. absurd (data_exist (sorted_data tree.now.zone (name_of tree.now owner) rtype) is)),
+        (records_end config name server setting rtype state same at named tree owner so, λ is. absurd (data_exist (sorted_data tree.now.zone (name_of tree.now owner) rtype) is)),
   )
 
   -- a server that replies with an alias answers the name, behind so many rewrites, by the alias and the end to which it
   -- leads
-  pub alias_behind : (tree : Bor ZoneTree) (owner : ℕ) (target : Bor Labels) (end : AliasEnd) → IsReply config name server (reply.Alias tree owner target)
+  pub alias_behind : (tree : Bor ZoneTree) (owner : ℕ) (target : Bor Labels) (end : AliasEnd) → IsReply config server name (reply.Alias tree owner target)
       → IsAliasEnd config server target.now (rewrites + 1) end
       → AnswersBehind config server name rewrites (alias_answering tree.now owner end.tree.now end.owner) end.rewrites
   alias_behind tree owner target end so on setting rtype state same enough at named used = by (type_eq rtype types.Cname) refl where
@@ -123,7 +124,7 @@ module _ (config : Config) (query server : Labels) where
   )
 
   -- a server that replies with an alias answers the query by the alias and the end to which it leads
-  pub alias_answers_so : (tree : Bor ZoneTree) (owner : ℕ) (target : Bor Labels) (end : AliasEnd) → IsReply config query server (reply.Alias tree owner target)
+  pub alias_answers_so : (tree : Bor ZoneTree) (owner : ℕ) (target : Bor Labels) (end : AliasEnd) → IsReply config server query (reply.Alias tree owner target)
       → IsAliasEnd config server target.now 1 end → AnswersSo config query server (alias_answering tree.now owner end.tree.now end.owner) end.rewrites
   alias_answers_so tree owner target end so on setting rtype above same enough =
       let (behind, few, along) = alias_behind config server query 0 tree owner target end so on setting rtype (state_at config query server above) same enough refl refl refl in

@@ -1,17 +1,16 @@
 -- The branches of referrals.
-use Rattle.std.proofs.Common.{◌≡◌, ◌≢◌, ℕ, ◌+◌, ◌<◌, Bool, true, false, not, cond, List, [], ◌∷◌, ◌++◌, length, map, take, get_or, Option, Some, None, Bor, refl, sym, ap, ◌∙◌, subst, inl, inr, ◌==◌, true≢false}
-use Rattle.std.specs.Prelude.{◌⊎◌, ◌||◌, is_some, option_and_then, option_map, Contains}
+use Rattle.std.proofs.Common.{◌≡◌, ◌≢◌, ℕ, ◌+◌, ◌<◌, Bool, true, false, not, List, [], ◌∷◌, ◌++◌, length, map, take, get_or, Option, Some, None, Bor, refl, sym, ap, ◌∙◌, subst, inl, inr, ◌==◌, true≢false}
+use Rattle.std.specs.Prelude.{◌⊎◌, ◌||◌, option_map, Contains}
 use Rattle.std.specs.List.{AllByRecursion, list_any}
 use Rattle.std.proofs.lemmas.List.{append-nil, append_assoc, map-append, take_more}
 use Rattle.std.proofs.lemmas.List.Elements.{Contains-append_left, Contains-append_right}
-use Rattle.dns_data.specs.Name.{Labels, name_eq, is_prefix}
+use Rattle.dns_data.specs.Name.{Labels, name_eq}
 use Rattle.dns_data.proofs.Membership.{has_first}
 use Rattle.dns_data.proofs.Names.{all_push, all_so}
 use Rattle.net_model.specs.declared.deps.Deps.{Deps}
-use Rattle.net_model.specs.Nearest.{is_configured, is_top, nearest, nearest_of, server_named}
-use Rattle.net_model.specs.Step.{Setting, Branch, Go, End, delegated, has_glue, may_follow, referred}
+use Rattle.net_model.specs.Nearest.{is_configured, is_top, nearest_of}
+use Rattle.net_model.specs.Step.{Setting, Branch, Go, End, following, has_glue, may_follow, referred}
 use Rattle.net_model.specs.declared.config.Config.{Config}
-use Rattle.net_model.specs.declared.config.Server.{Server}
 use Rattle.net_model.specs.declared.config.Zone.{Zone}
 use Rattle.net_model.specs.declared.place.Cut.{Cut}
 use Rattle.net_model.specs.declared.walk.Hop.{Hop}
@@ -20,7 +19,11 @@ use Rattle.net_model.specs.declared.walk.Leaf.{Leaf}
 use Rattle.net_model.specs.declared.walk.Leaf.TheVariants as leaves
 use Rattle.net_model.specs.declared.walk.State.{State}
 use Rattle.walk_laws.specs.Outcome.{outcome_of}
+use Rattle.zone_tree.specs.Tree.{ZoneTree}
+use Rattle.zone_lookup.specs.Leads.{IsLead}
 use Rattle.zone_lookup.specs.Sound.{IsSound}
+use Rattle.zone_lookup.specs.declared.leads.Lead.TheVariants as lead
+use Rattle.zone_lookup.proofs.Leading.{refers_by}
 use Rattle.straight_walks.specs.Searching.{AreReferrals, Extends, IsReferral, IsSettingOf, cut_to, state_at, queued_state, to_servers}
 use Rattle.straight_walks.specs.Straight.{EndsUnanswered, FailsOrGoes}
 use Rattle.straight_walks.specs.declared.queue.Queued.{Queued}
@@ -36,45 +39,28 @@ still_known false false least followed so e = so e
 
 module _ (config : Config) (deps : Deps) (query : Labels) (cut : Cut) where
   -- walks go on to a name server that is known and serves a zone at or below the cut
-  pub goes_on_to : (host : Server) (zone : Zone) → IsSound config deps cut → Some host ≡ server_named config cut.ns
-      → may_follow config cut deps.least ≡ true → Some zone ≡ nearest host query → is_prefix cut.cut zone.origin ≡ true
+  pub goes_on_to : (rewrites : ℕ) (tree : Bor ZoneTree) → IsSound config deps cut → IsLead (following config rewrites deps.least) cut query (lead.Goes tree)
       → IsReferral config deps query cut referral.GoesOn
-  goes_on_to host zone sound named known serves below setting above of =
+  goes_on_to rewrites tree sound leads setting above of =
       (subst (λ (c : Config). IsSound c deps cut) (sym of.config_is) sound, goes)
     where
-      state : State
-      state = state_at config query cut.server above
-
       to : Option Labels → State
-      to origin = record { server = cut.ns; name = query; carried = true; cut = length cut.cut; used = 0; last = state.last; zone = origin }
-
-      holder : server_named setting.config cut.ns ≡ Some host
-      holder = ap (λ (c : Config). server_named c cut.ns) of.config_is ∙ sym named
+      to origin = record { server = cut.ns; name = query; carried = true; cut = length cut.cut; used = 0; last = None; zone = origin }
 
       configured : is_configured setting.config cut.ns ≡ true
-      configured = ap (λ (s : Option Server). is_some s) holder
+      configured = ap (λ (c : Config). is_configured c cut.ns) of.config_is ∙ leads.0.configured
 
       followed : may_follow setting.config cut setting.followed ≡ true
       followed =
           still_known (is_top setting.config cut.ns) (has_glue setting.config cut) (list_any (name_eq cut.ns) deps.least) (list_any (name_eq cut.ns) setting.followed)
           (of.follows cut.ns configured)
-          (ap (λ (c : Config). may_follow c cut deps.least) of.config_is ∙ known)
+          (ap (λ (c : Config). may_follow c cut deps.least) of.config_is ∙ leads.0.known)
 
-      serving : nearest_of setting.config cut.ns query ≡ Some zone
-      serving = ap (λ (s : Option Server). option_and_then (λ holder. nearest holder query) s) holder ∙ sym serves
-
-      nearest_there : Some zone ≡ nearest_of config cut.ns query
-      nearest_there = sym serving ∙ ap (λ (c : Config). nearest_of c cut.ns query) of.config_is
-
-      goes : referred setting state cut ≡ Go (Refer cut) (state_at config query cut.ns (length cut.cut))
+      goes : referred setting (state_at config query cut.server above) cut ≡ Go (Refer cut) (state_at config query cut.ns (length cut.cut))
       goes =
-          ap (λ (b : Bool). cond (not b) (End (Some (Refer cut)) (leaves.Unhosted cut.ns))
-          (cond (not (may_follow setting.config cut setting.followed)) (End (Some (Refer cut)) (leaves.NoAddress cut.ns))
-          (delegated state cut (nearest_of setting.config cut.ns query)))) configured
-          ∙ ap (λ (b : Bool). cond (not b) (End (Some (Refer cut)) (leaves.NoAddress cut.ns)) (delegated state cut (nearest_of setting.config cut.ns query))) followed
-          ∙ ap (delegated state cut) serving
-          ∙ ap (λ (b : Bool). cond b (Go (Refer cut) (to (Some zone.origin))) (End (Some (Refer cut)) (leaves.Lame cut.ns))) below
-          ∙ ap (λ (z : Option Zone). Go (Refer cut) (to (option_map (λ (z : Zone). z.origin) z))) nearest_there
+          refers_by setting (state_at config query cut.server above) cut (lead.Goes tree)
+          (record { configured = configured; known = followed }, ap (λ (c : Config). nearest_of c cut.ns query) of.config_is ∙ leads.1, leads.2)
+          ∙ ap (λ (z : Option Zone). Go (Refer cut) (to (option_map (λ (z : Zone). z.origin) z))) (sym leads.1)
 
 -- ---- the name servers of a zone cut
 

@@ -1,10 +1,12 @@
 mod Worked
 pub mod AliasWalks
 pub mod AliasEnds
+pub mod BeginningSearches
 pub mod ComingTo
 pub mod FewStates
 pub mod GivenEnds
 pub mod LeastFollowed
+pub mod MarkedStates
 pub mod GoingOn
 pub mod Replies
 pub mod SameOutcomes

@@ -9,18 +9,20 @@ use Rattle.net_model.specs.declared.deps.Deps.{Deps}
 use Rattle.net_model.specs.Zone.{ns_names}
 use Rattle.net_model.specs.declared.config.Config.{Config}
 use Rattle.zone_tree.specs.Tree.{ZoneTree, name_of}
-use Rattle.straight_walks.specs.Searching.{AllEndOutside, AreEndsFor, AreReferrals, EndsOutside, HavePassed, HasPassed, IsAnswered, IsReferral, IsReply, PassesServer, cut_to, failing, nothing_below, nothing_there, unanswered}
+use Rattle.zone_lookup.specs.Reply.{IsReply}
+use Rattle.straight_walks.specs.Searching.{AllEndOutside, AreEndsFor, AreReferrals, EndsOutside, HavePassed, HasPassed, IsAnswered, IsReferral, PassesServer, cut_to, failing, nothing_below, nothing_there, unanswered}
 use Rattle.straight_walks.specs.Regions.{IsSearchBelow}
 use Rattle.straight_walks.specs.Straight.{NoOriginBetween}
 use Rattle.straight_walks.specs.declared.ends.StraightEnds.{StraightEnds}
 use Rattle.straight_walks.specs.declared.name_server.Referral.TheVariants as referral
 use Rattle.straight_walks.specs.declared.queue.Queued.{Queued}
 use Rattle.straight_walks.specs.declared.searching.Search.{Search}
-use Rattle.straight_walks.specs.declared.server.Reply.TheVariants as reply
+use Rattle.zone_lookup.specs.declared.reply.Reply.TheVariants as reply
 use Rattle.straight_walks.proofs.BelowOrigins.{none_between_itself, same_nearest}
 use Rattle.straight_walks.proofs.GoingOn.{all_that_end}
 use Rattle.straight_walks.proofs.OtherNames.{refers_for}
 use Rattle.straight_walks.proofs.RegionSearch.{refers_below}
+use Rattle.straight_walks.proofs.Replies.{refers_held}
 use Rattle.straight_walks.proofs.StraightSearch.{answer_passes, one_passed, outside_passes, referral_passed, referral_passes}
 use Rattle.straight_walks.proofs.UnnamedBelow.{none_between, nothing_so, put_below}
 
@@ -69,7 +71,7 @@ module _ (config : Config) (deps : Deps) (query : Labels) where
 
   module _ (server : Labels) (queue : List Queued) (ends : StraightEnds) where
     -- for each name of which the ends tell, walks pass a server without a zone for the query
-    pub outside_for : IsReply config query server reply.Outside → (name : Labels) (found : StraightEnds) → AreEndsFor config query (failing ends) name found
+    pub outside_for : IsReply config server query reply.Outside → (name : Labels) (found : StraightEnds) → AreEndsFor config query (failing ends) name found
         → PassesFor server queue ends (failing ends) name found
     outside_for so name found of =
         let (found_before, of_before, is, fails) = before_failing ends true name found of in (
@@ -81,7 +83,7 @@ module _ (config : Config) (deps : Deps) (query : Labels) where
 
     -- for each name of which the ends tell, walks pass a server that refers the query by a zone cut at all of whose
     -- name servers they end
-    pub ending_for : (tree : Bor ZoneTree) (cut : ℕ) → IsReply config query server (reply.Refers tree cut) → AllEndOutside config tree.now cut
+    pub ending_for : (tree : Bor ZoneTree) (cut : ℕ) → IsReply config server query (reply.Refers tree cut) → AllEndOutside config tree.now cut
         → (name : Labels) (found : StraightEnds) → AreEndsFor config query (failing ends) name found → PassesFor server queue ends (failing ends) name found
     ending_for tree cut so all name found of =
         let (found_before, of_before, is, fails) = before_failing ends true name found of in (
@@ -92,7 +94,7 @@ module _ (config : Config) (deps : Deps) (query : Labels) where
               (refers_below config deps query server tree cut so name (between ends name found_before of_before))
               (all_that_end config deps name server tree.now.zone (name_of tree.now cut) (ns_names tree.now.zone (name_of tree.now cut))
               (all_so (EndsOutside config tree.now cut) (λ (ns : Labels). IsReferral config deps name (cut_to server tree.now.zone (name_of tree.now cut) ns) referral.Ends)
-              (ns_names tree.now.zone (name_of tree.now cut)) (λ ns end. end deps name server so.2) all.0)
+              (ns_names tree.now.zone (name_of tree.now cut)) (λ ns end. end deps name server (refers_held config query server tree cut so)) all.0)
               all.1 queue found_before.fails)),
         )
 
@@ -130,7 +132,7 @@ module _ (config : Config) (deps : Deps) (query : Labels) where
   -- for each name of which the ends tell, one queued state more is passed if its server refers the query
   pub referral_passed_for : (queue after : List Queued) (at : ℕ) (ends : StraightEnds) (fails : Bool) (tree : Bor ZoneTree) (cut : ℕ) (item : Queued)
       → at < length queue → item ≡ get_or queue at item
-      → IfSome (slice_get queue at) (λ one. IsReply config query one.server.now (reply.Refers tree cut)) → HavePassed config deps query queue at ends
+      → IfSome (slice_get queue at) (λ one. IsReply config one.server.now query (reply.Refers tree cut)) → HavePassed config deps query queue at ends
       → AreReferrals config deps query item.server.now tree.now.zone (name_of tree.now cut) (ns_names tree.now.zone (name_of tree.now cut)) queue ends.fails after fails
       → HavePassed config deps query after (at + 1) (record ends { fails = fails })
   referral_passed_for queue after at ends fails tree cut item within is refers so on name found of =

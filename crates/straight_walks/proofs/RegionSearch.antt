@@ -11,42 +11,47 @@ use Rattle.net_model.specs.Lookup.{deciding}
 use Rattle.net_model.specs.Zone.{ns_names}
 use Rattle.net_model.specs.declared.config.Config.{Config}
 use Rattle.net_model.specs.declared.walk.State.{State}
+use Rattle.zone_lookup.proofs.Glue.{further_below}
 use Rattle.zone_tree.specs.Tree.{ZoneTree, name_of}
-use Rattle.straight_walks.specs.Searching.{AreReferrals, Extends, HasWalked, IsReply, PassesServer, queued_state, unanswered}
-use Rattle.straight_walks.specs.Regions.{IsAnsweringMore, IsLookedAt, IsPassedMore, IsRegionStart, IsSearchBelow}
+use Rattle.zone_lookup.specs.Reply.{IsReply}
+use Rattle.straight_walks.specs.Searching.{AreReferrals, Extends, HasWalked, PassesServer, queued_state, unanswered}
+use Rattle.straight_walks.specs.Regions.{IsAnsweringMore, IsLookedAt, IsPassedMore, IsSearchBelow}
 use Rattle.straight_walks.specs.Straight.{NoOriginBetween}
 use Rattle.straight_walks.specs.declared.queue.Queued.{Queued}
 use Rattle.straight_walks.specs.declared.region.RegionSearch.{RegionSearch}
 use Rattle.straight_walks.specs.declared.searching.Search.{Search}
-use Rattle.straight_walks.specs.declared.server.Reply.TheVariants as reply
+use Rattle.zone_lookup.specs.declared.reply.Reply.TheVariants as reply
 use Rattle.straight_walks.proofs.BelowOrigins.{cut_stays, same_nearest}
 use Rattle.straight_walks.proofs.OtherNames.{refers_for}
-use Rattle.straight_walks.proofs.StraightSearch.{begins_at_top, one_walked, outside_passes, referral_passes, walked_among}
+use Rattle.straight_walks.proofs.StraightSearch.{one_walked, outside_passes, referral_passes, walked_among}
 
 module _ (config : Config) (deps : Deps) (origin : Labels) where
   -- ---- one server
 
   -- walks for each name below the origin with no other between pass a server that has no zone for the origin
-  pub outside_past : (server : Labels) (queue : List Queued) (fails : Bool) → IsReply config origin server reply.Outside → (query : Labels) → NoOriginBetween config origin query
+  pub outside_past : (server : Labels) (queue : List Queued) (fails : Bool) → IsReply config server origin reply.Outside → (query : Labels) → NoOriginBetween config origin query
       → PassesServer config deps query server queue (unanswered fails) queue (unanswered true)
   outside_past server queue fails so query nearest =
       outside_passes config deps query server queue (unanswered fails) (same_nearest config origin query nearest server ∙ so)
 
   -- a server whose zone refers the origin refers each name below it, with no other origin between, by the same zone cut
-  pub refers_below : (server : Labels) (tree : Bor ZoneTree) (cut : ℕ) → IsReply config origin server (reply.Refers tree cut)
-      → (query : Labels) → NoOriginBetween config origin query → IsReply config query server (reply.Refers tree cut)
+  pub refers_below : (server : Labels) (tree : Bor ZoneTree) (cut : ℕ) → IsReply config server origin (reply.Refers tree cut)
+      → (query : Labels) → NoOriginBetween config origin query → IsReply config server query (reply.Refers tree cut)
   refers_below server tree cut so query nearest =
       let begins = is_prefix_tells origin query nearest.above in (
-        so.0,
-        so.1,
-        so.2,
-        same_nearest config origin query nearest server ∙ so.3,
-        ap (deciding tree.now.zone) (sym begins.1) ∙ cut_stays tree.now.zone origin begins.0 (name_of tree.now cut) so.4,
+        same_nearest config origin query nearest server ∙ so.0,
+        (
+          so.1.0,
+          record {
+            inside = further_below tree.now.zone.origin origin query so.1.1.inside nearest.above;
+            decides = ap (deciding tree.now.zone) (sym begins.1) ∙ cut_stays tree.now.zone origin begins.0 (name_of tree.now cut) so.1.1.decides;
+          },
+        ),
       )
 
   -- walks for each name below the origin with no other between pass a server whose zone refers the origin
   pub referral_past : (server : Labels) (queue : List Queued) (fails_before : Bool) (after : List Queued) (fails : Bool) (tree : Bor ZoneTree) (cut : ℕ)
-      → IsReply config origin server (reply.Refers tree cut)
+      → IsReply config server origin (reply.Refers tree cut)
       → AreReferrals config deps origin server tree.now.zone (name_of tree.now cut) (ns_names tree.now.zone (name_of tree.now cut)) queue fails_before after fails
       → (query : Labels) → NoOriginBetween config origin query → PassesServer config deps query server queue (unanswered fails_before) after (unanswered fails)
   referral_past server queue fails_before after fails tree cut so on query nearest =
@@ -59,23 +64,25 @@ module _ (config : Config) (deps : Deps) (origin : Labels) where
   -- so many of the states are looked at: each of these is among those that are passed or those whose servers answer,
   -- which are all queued, and for each of the names the search has walked over those that are passed
   pub record AreLookedAt (at : ℕ) (search : RegionSearch) : Type 0 where
-    pub within : at ≤ length search.queue.items
-    pub walked : (query : Labels) → NoOriginBetween config origin query → HasWalked config deps query search.queue.items search.passed.items (unanswered search.fails)
-    pub either : (one : Queued) → Contains (take at search.queue.items) one → Contains (search.passed.items ++ search.answering.items) one
-    pub only : (one : Queued) → Contains (search.passed.items ++ search.answering.items) one → Contains search.queue.items one
+    pub within : at ≤ length search.queue
+    pub walked : (query : Labels) → NoOriginBetween config origin query → HasWalked config deps query search.queue search.passed.items (unanswered search.fails)
+    pub either : (one : Queued) → Contains (take at search.queue) one → Contains (search.passed.items ++ search.answering.items) one
+    pub only : (one : Queued) → Contains (search.passed.items ++ search.answering.items) one → Contains search.queue one
 
-  -- where the search for an origin begins no state is looked at
-  pub none_looked_at : (search : RegionSearch) → IsRegionStart config search → AreLookedAt 0 search
-  none_looked_at search is =
+  -- where a search has begun no state is looked at
+  pub none_looked_at : (begun : Search) → IsSearchBelow config deps origin begun → begun.passed ≡ 0 → (search : RegionSearch) → search.queue ≡ begun.queue.items
+      → search.passed.items ≡ [] → search.answering.items ≡ [] → search.fails ≡ begun.fails → AreLookedAt 0 search
+  none_looked_at begun is first search queue_is passed_is answering_is fails_is =
       record {
         within = omega arith;
         walked = λ query nearest.
-            subst (λ (passed : List Queued). HasWalked config deps query search.queue.items passed (unanswered search.fails)) (sym is.passed)
-            (subst (λ (fails : Bool). HasWalked config deps query search.queue.items [] (unanswered fails)) (sym is.fails)
-            (begins_at_top config deps query search.queue.items (is.queue query)));
+            subst (λ (passed : List Queued). HasWalked config deps query search.queue passed (unanswered search.fails)) (sym passed_is)
+            (subst (λ (fails : Bool). HasWalked config deps query search.queue [] (unanswered fails)) (sym fails_is)
+            (subst (λ (queue : List Queued). HasWalked config deps query queue [] (unanswered begun.fails)) (sym queue_is)
+            (subst (λ (n : ℕ). HasWalked config deps query begun.queue.items (take n begun.queue.items) (unanswered begun.fails)) first (is query nearest).walked)));
         either = λ one has. absurd (none_in_nil one has);
         only = λ one has. absurd (none_in_nil one
-            (subst (λ (all : List Queued). Contains all one) (ap (λ (p : List Queued). p ++ search.answering.items) is.passed ∙ is.answering) has));
+            (subst (λ (all : List Queued). Contains all one) (ap (λ (p : List Queued). p ++ search.answering.items) passed_is ∙ answering_is) has));
       }
 
   -- an item more on either side
@@ -127,33 +134,33 @@ module _ (config : Config) (deps : Deps) (origin : Labels) where
     by (inr among) = right (last_or_before answering item one among)
 
   -- one more of the states is looked at
-  module _ (before after : RegionSearch) (at : ℕ) (item : Queued) (within : at < length before.queue.items) (is : item ≡ get_or before.queue.items at item) (so : AreLookedAt at before) where
-    queued : Contains before.queue.items item
-    queued = subst (Contains before.queue.items) (sym is) (Contains-get_or before.queue.items at item within)
+  module _ (before after : RegionSearch) (at : ℕ) (item : Queued) (within : at < length before.queue) (is : item ≡ get_or before.queue at item) (so : AreLookedAt at before) where
+    queued : Contains before.queue item
+    queued = subst (Contains before.queue) (sym is) (Contains-get_or before.queue at item within)
 
-    in_reach : Extends before.queue.items after.queue.items → at + 1 ≤ length after.queue.items
-    in_reach more = subst (λ (all : List Queued). at + 1 ≤ length all) (sym more.1) (omega (arith, within, length-append before.queue.items more.0))
+    in_reach : Extends before.queue after.queue → at + 1 ≤ length after.queue
+    in_reach more = subst (λ (all : List Queued). at + 1 ≤ length all) (sym more.1) (omega (arith, within, length-append before.queue more.0))
 
     -- of the states up to the next one
-    so_far : Extends before.queue.items after.queue.items → (other : Queued) → Contains (take (at + 1) after.queue.items) other
+    so_far : Extends before.queue after.queue → (other : Queued) → Contains (take (at + 1) after.queue) other
         → Contains (before.passed.items ++ before.answering.items) other ⊎ (item ≡ other)
-    so_far more other has = by (last_or_before (take at before.queue.items) item other (subst (λ (all : List Queued). Contains all other) passed_over has)) where
-      passed_over : take (at + 1) after.queue.items ≡ take at before.queue.items ++ item ∷ []
+    so_far more other has = by (last_or_before (take at before.queue) item other (subst (λ (all : List Queued). Contains all other) passed_over has)) where
+      passed_over : take (at + 1) after.queue ≡ take at before.queue ++ item ∷ []
       passed_over =
-          ap (take (at + 1)) more.1 ∙ take-append-le (at + 1) before.queue.items more.0 (omega (arith, within)) ∙ take_more before.queue.items at item within
-          ∙ (λ j. take at before.queue.items ++ sym is j ∷ [])
+          ap (take (at + 1)) more.1 ∙ take-append-le (at + 1) before.queue more.0 (omega (arith, within)) ∙ take_more before.queue at item within
+          ∙ (λ j. take at before.queue ++ sym is j ∷ [])
 
-      by : Contains (take at before.queue.items) other ⊎ (item ≡ other) → Contains (before.passed.items ++ before.answering.items) other ⊎ (item ≡ other)
+      by : Contains (take at before.queue) other ⊎ (item ≡ other) → Contains (before.passed.items ++ before.answering.items) other ⊎ (item ≡ other)
       by (inl early) = inl (so.either other early)
       by (inr same) = inr same
 
     -- each of those that were looked at is queued, and so is the next one
-    still_queued_after : Extends before.queue.items after.queue.items → (other : Queued) → Contains (before.passed.items ++ before.answering.items) other ⊎ (item ≡ other)
-        → Contains after.queue.items other
-    still_queued_after more other among = subst (λ (all : List Queued). Contains all other) (sym more.1) (Contains-append_left before.queue.items more.0 other (by among)) where
-      by : Contains (before.passed.items ++ before.answering.items) other ⊎ (item ≡ other) → Contains before.queue.items other
+    still_queued_after : Extends before.queue after.queue → (other : Queued) → Contains (before.passed.items ++ before.answering.items) other ⊎ (item ≡ other)
+        → Contains after.queue other
+    still_queued_after more other among = subst (λ (all : List Queued). Contains all other) (sym more.1) (Contains-append_left before.queue more.0 other (by among)) where
+      by : Contains (before.passed.items ++ before.answering.items) other ⊎ (item ≡ other) → Contains before.queue other
       by (inl has) = so.only other has
-      by (inr same) = subst (Contains before.queue.items) same queued
+      by (inr same) = subst (Contains before.queue) same queued
 
     -- one state more is looked at if it is passed
     pub passed_looked_at : IsPassedMore config deps origin item before after → AreLookedAt (at + 1) after
@@ -161,8 +168,8 @@ module _ (config : Config) (deps : Deps) (origin : Labels) where
         record {
           within = in_reach more.extends;
           walked = λ query nearest.
-              subst (λ (passed : List Queued). HasWalked config deps query after.queue.items passed (unanswered after.fails)) (sym more.passed)
-              (one_walked config deps query before.queue.items after.queue.items before.passed.items (unanswered before.fails) (unanswered after.fails) item queued
+              subst (λ (passed : List Queued). HasWalked config deps query after.queue passed (unanswered after.fails)) (sym more.passed)
+              (one_walked config deps query before.queue after.queue before.passed.items (unanswered before.fails) (unanswered after.fails) item queued
               (so.walked query nearest) (more.passes query nearest));
           either = λ other has.
               subst (λ (all : List Queued). Contains all other) (sym both) (more_passed before.passed.items before.answering.items item other (so_far more.extends other has));
@@ -181,8 +188,8 @@ module _ (config : Config) (deps : Deps) (origin : Labels) where
           within = in_reach same_queue;
           walked = λ query nearest.
               subst (λ (queue : List Queued). HasWalked config deps query queue after.passed.items (unanswered after.fails)) (sym more.queue)
-              (subst (λ (passed : List Queued). HasWalked config deps query before.queue.items passed (unanswered after.fails)) (sym more.passed)
-              (subst (λ (fails : Bool). HasWalked config deps query before.queue.items before.passed.items (unanswered fails)) (sym more.fails) (so.walked query nearest)));
+              (subst (λ (passed : List Queued). HasWalked config deps query before.queue passed (unanswered after.fails)) (sym more.passed)
+              (subst (λ (fails : Bool). HasWalked config deps query before.queue before.passed.items (unanswered fails)) (sym more.fails) (so.walked query nearest)));
           either = λ other has.
               subst (λ (all : List Queued). Contains all other) (sym both) (more_answering before.passed.items before.answering.items item other (so_far same_queue other has));
           only = λ other has.
@@ -190,8 +197,8 @@ module _ (config : Config) (deps : Deps) (origin : Labels) where
               (answering_before before.passed.items before.answering.items item other (subst (λ (all : List Queued). Contains all other) both has));
         }
       where
-        same_queue : Extends before.queue.items after.queue.items
-        same_queue = ([], more.queue ∙ sym (append-nil before.queue.items))
+        same_queue : Extends before.queue after.queue
+        same_queue = ([], more.queue ∙ sym (append-nil before.queue))
 
         both : after.passed.items ++ after.answering.items ≡ before.passed.items ++ (before.answering.items ++ item ∷ [])
         both = ap (λ (p : List Queued). p ++ after.answering.items) more.passed ∙ ap (λ (a : List Queued). before.passed.items ++ a) more.answering
@@ -202,7 +209,7 @@ module _ (config : Config) (deps : Deps) (origin : Labels) where
     one_looked_at (inr more) = answering_looked_at more
 
   -- where all are looked at the search is one for each of the names
-  pub all_looked_at : (search : RegionSearch) (at : ℕ) → AreLookedAt at search → length search.queue.items ≤ at
+  pub all_looked_at : (search : RegionSearch) (at : ℕ) → AreLookedAt at search → length search.queue ≤ at
       → (searched : Search) → searched.queue.items ≡ search.passed.items ++ search.answering.items → searched.passed ≡ length search.passed.items → searched.fails ≡ search.fails
       → IsSearchBelow config deps origin searched
   all_looked_at search at so all searched queue_is passed_is fails_is query nearest =
@@ -211,17 +218,17 @@ module _ (config : Config) (deps : Deps) (origin : Labels) where
         walked =
             subst (λ (first : List Queued). HasWalked config deps query searched.queue.items first (unanswered searched.fails)) (sym first_are)
             (subst (λ (fails : Bool). HasWalked config deps query searched.queue.items search.passed.items (unanswered fails)) (sym fails_is)
-            (walked_among config deps query search.queue.items searched.queue.items search.passed.items (unanswered search.fails) among back (so.walked query nearest)));
+            (walked_among config deps query search.queue searched.queue.items search.passed.items (unanswered search.fails) among back (so.walked query nearest)));
       }
     where
-      among : (state : State) → Contains (map (queued_state config query) search.queue.items) state → Contains (map (queued_state config query) searched.queue.items) state
+      among : (state : State) → Contains (map (queued_state config query) search.queue) state → Contains (map (queued_state config query) searched.queue.items) state
       among state has =
-          let from = from_map (queued_state config query) search.queue.items state has in
+          let from = from_map (queued_state config query) search.queue state has in
           subst (Contains (map (queued_state config query) searched.queue.items)) from.2
           (map_has (queued_state config query) searched.queue.items from.0
-          (subst (λ (l : List Queued). Contains l from.0) (sym queue_is) (so.either from.0 (subst (λ (l : List Queued). Contains l from.0) (sym (take_all at search.queue.items all)) from.1))))
+          (subst (λ (l : List Queued). Contains l from.0) (sym queue_is) (so.either from.0 (subst (λ (l : List Queued). Contains l from.0) (sym (take_all at search.queue all)) from.1))))
 
-      back : (one : Queued) → Contains searched.queue.items one → Contains search.queue.items one
+      back : (one : Queued) → Contains searched.queue.items one → Contains search.queue one
       back one has = so.only one (subst (λ (l : List Queued). Contains l one) queue_is has)
 
       first_are : take searched.passed searched.queue.items ≡ search.passed.items

@@ -1,16 +1,17 @@
 -- The search for the states from which walks go straight.
-use Rattle.std.proofs.Common.{◌≡◌, ℕ, ◌+◌, ◌*◌, ◌<◌, ◌≤◌, Bool, true, false, List, [], ◌∷◌, ◌++◌, length, map, take, take_all, get_or, Option, Some, None, IfSome, Bor, refl, sym, ap, ◌∙◌, subst, inl, inr, arith}
+use Rattle.std.proofs.Common.{◌≡◌, ℕ, ◌+◌, ◌*◌, ◌<◌, ◌≤◌, Bool, true, List, [], ◌∷◌, ◌++◌, length, map, take, take_all, get_or, Option, Some, None, IfSome, Bor, refl, sym, ap, ◌∙◌, subst, inl, inr, arith}
 use Rattle.std.specs.Prelude.{◌⊎◌, Contains}
 use Rattle.std.specs.List.{AllByRecursion, slice_get}
 use Rattle.std.proofs.lemmas.List.{append-nil, length-append, length-map, map-append, take_more, take-append-le}
-use Rattle.std.proofs.lemmas.List.Elements.{Contains-get_or}
+use Rattle.std.proofs.lemmas.List.Elements.{Contains-append_cases, Contains-append_left, Contains-append_right, Contains-get_or}
 use Rattle.std.proofs.lemmas.Option.{slice_get_read}
 use Rattle.dns_data.specs.Name.{Labels}
 use Rattle.dns_data.specs.declared.rr_type.RrType.{RrType}
-use Rattle.dns_data.proofs.Membership.{each_along, has_first, map_has}
+use Rattle.dns_data.specs.declared.rr_type.RrType.TheVariants as types
+use Rattle.dns_data.proofs.Membership.{each_along, from_map, has_first, map_has}
 use Rattle.dns_data.proofs.Names.{all_push, all_so}
 use Rattle.net_model.specs.declared.deps.Deps.{Deps}
-use Rattle.net_model.specs.Step.{Setting, Branch, Go, End, next, start}
+use Rattle.net_model.specs.Step.{Setting, Branch, Go, End, arrived, next, start}
 use Rattle.net_model.specs.Zone.{ns_names}
 use Rattle.net_model.specs.declared.config.Config.{Config}
 use Rattle.net_model.specs.declared.walk.Hop.{Hop}
@@ -21,22 +22,18 @@ use Rattle.walk_laws.specs.Outcome.{HasOutcome, outcome_of}
 use Rattle.zone_tree.specs.Tree.{ZoneTree, name_of}
 use Rattle.straight_walks.specs.Answers.{AnswerOwners, leaf_of}
 use Rattle.straight_walks.specs.Ends.{IsOutcomeOf}
-use Rattle.straight_walks.specs.Searching.{AnswersSo, AreReferrals, EndsWith, GoesStraightIn, HasPassed, HasWalked, IsComeTo, AnswerIsPut, IsReply, IsSettingFor, IsSettingOf, KeepsOutcomes, LeadsOn, PassesServer, PassesState, state_at, queued_state, to_servers, unanswered, HoldsOfEachTold}
-use Rattle.straight_walks.specs.Straight.{FailsOrGoes, StepsStraight}
+use Rattle.zone_lookup.specs.Reply.{IsReply}
+use Rattle.straight_walks.specs.Searching.{AnswersSo, AreReferrals, BeginsAtTops, EndsWith, GoesStraightIn, HasPassed, HasWalked, IsBegun, IsComeTo, AnswerIsPut, IsSettingFor, IsSettingOf, KeepsOutcomes, LeadsOn, PassesServer, PassesState, state_at, queued_state, to_servers, unanswered, HoldsOfEachTold}
+use Rattle.straight_walks.specs.Straight.{BranchStraight, FailsOrGoes, StepsStraight}
 use Rattle.straight_walks.specs.declared.ends.StraightEnds.{StraightEnds}
 use Rattle.straight_walks.specs.declared.queue.Queued.{Queued}
-use Rattle.straight_walks.specs.declared.server.Reply.TheVariants as reply
+use Rattle.zone_lookup.specs.declared.reply.Reply.TheVariants as reply
 use Rattle.straight_walks.proofs.AliasWalks.{ends_along, ends_by_branch}
 use Rattle.straight_walks.proofs.ComingTo.{comes_first, comes_on, comes_to_end}
 use Rattle.straight_walks.proofs.GoingOn.{fails_or_goes_still, still_queued}
 use Rattle.straight_walks.proofs.Replies.{outside_ends, refers_to}
 use Rattle.straight_walks.proofs.SameOutcomes.{answers_told, outcome_told}
 use Rattle.straight_walks.proofs.StatesBehind.{all_step, few_in_all, still_there, with_behind}
-
--- nothing is told yet where no zone answers and no walk fails
-none_told : (rtype : RrType) (outcome : Option Leaf) → IsOutcomeOf (unanswered false) rtype outcome → ⊥
-none_told rtype None is = cc
-none_told rtype (Some leaf) is = cc
 
 module _ (config : Config) (deps : Deps) (query : Labels) where
   -- the states at the servers of the one queue are among those at the servers of the other
@@ -68,7 +65,7 @@ module _ (config : Config) (deps : Deps) (query : Labels) where
 
   module _ (server : Labels) (queue : List Queued) (ends : StraightEnds) where
     -- walks pass a server that has no zone for the name
-    pub outside_passes : IsReply config query server reply.Outside → PassesServer config deps query server queue ends queue (record ends { fails = true })
+    pub outside_passes : IsReply config server query reply.Outside → PassesServer config deps query server queue ends queue (record ends { fails = true })
     outside_passes so =
         record {
           extends = ([], sym (append-nil queue));
@@ -118,7 +115,7 @@ module _ (config : Config) (deps : Deps) (query : Labels) where
             (ends_along setting rtype (leaf_of answering rtype) (state_at config query server above) behind along))
 
     -- walks pass a server whose zone refers the name
-    pub referral_passes : (tree : Bor ZoneTree) (cut : ℕ) (after : List Queued) (fails : Bool) → IsReply config query server (reply.Refers tree cut)
+    pub referral_passes : (tree : Bor ZoneTree) (cut : ℕ) (after : List Queued) (fails : Bool) → IsReply config server query (reply.Refers tree cut)
         → AreReferrals config deps query server tree.now.zone (name_of tree.now cut) (ns_names tree.now.zone (name_of tree.now cut)) queue ends.fails after fails
         → PassesServer config deps query server queue ends after (record ends { fails = fails })
     referral_passes tree cut after fails so on =
@@ -170,17 +167,36 @@ module _ (config : Config) (deps : Deps) (query : Labels) where
   -- ---- those that are passed
 
   -- a search begins at the top servers
-  pub begins_at_top : (queue : List Queued) → map (queued_state config query) queue ≡ start config query → HasWalked config deps query queue [] (unanswered false)
-  begins_at_top queue is =
+  pub begins_at_top : (queue : List Queued) (fails : Bool) → BeginsAtTops config query queue fails → HasWalked config deps query queue [] (unanswered fails)
+  begins_at_top queue fails so =
       record {
-        begins = λ state has. subst (λ (all : List State). Contains all state) (sym is) has;
+        begins = so.each;
         comes = λ setting rtype of one has.
             comes_first setting query rtype (queued_state config query one)
-            (subst (λ (c : Config). Contains (start c query) (queued_state config query one)) (sym of.config_is)
-            (subst (λ (all : List State). Contains all (queued_state config query one)) is (map_has (queued_state config query) queue one has)));
+            (subst (λ (c : Config). Contains (start c query) (queued_state config query one)) (sym of.config_is) (so.only one has));
         steps = λ setting rtype of. tt;
-        told = λ setting rtype outcome of is. absurd (none_told rtype outcome is);
+        told = told;
       }
+    where
+      told : (setting : Setting) (rtype : RrType) (outcome : Option Leaf) → IsSettingFor config deps (unanswered fails) setting → IsOutcomeOf (unanswered fails) rtype outcome
+          → HasOutcome setting query rtype outcome
+      told setting rtype (Some leaf) of is = cc
+      told setting rtype None of is =
+          let (top, among, none) = so.told is in
+          comes_to_end setting query rtype (state_at config query top 0)
+          (comes_first setting query rtype (state_at config query top 0)
+          (subst (λ (c : Config). Contains (start c query) (state_at config query top 0)) (sym of.is_of.config_is)
+          (map_has (arrived config query true 0 None) config.tops top among)))
+          None
+          (ends_by_branch setting rtype (state_at config query top 0) None Outside None
+          (subst (λ (all : List Branch). Contains all (End None Outside)) (sym (outside_ends config query top none setting rtype 0 of.is_of.config_is))
+          (has_first (End None Outside) [])) refl)
+
+  -- a search still begins at a top server where more states are queued
+  begun_still : (before after : List Queued) (fails_before fails : Bool) → AreAmong before after → (fails_before ≡ true → fails ≡ true) → (top : Labels)
+      → IsBegun config query before fails_before top → IsBegun config query after fails top
+  begun_still before after fails_before fails more still top (inl queued) = inl (more (state_at config query top 0) queued)
+  begun_still before after fails_before fails more still top (inr (is, none)) = inr (still is, none)
 
   -- the search has walked over one queued state more if walks pass its server
   pub one_walked : (queue after passed : List Queued) (ends_before ends : StraightEnds) (item : Queued) → Contains queue item
@@ -188,7 +204,7 @@ module _ (config : Config) (deps : Deps) (query : Labels) where
       → HasWalked config deps query after (passed ++ item ∷ []) ends
   one_walked queue after passed ends_before ends item among so one =
       record {
-        begins = λ state has. more state (so.begins state has);
+        begins = λ top has. begun_still queue after ends_before.fails ends.fails more (one.still.outcomes types.A None) top (so.begins top has);
         comes = λ setting rtype of other has. comes setting rtype of other (one.leads other has);
         steps = λ setting rtype of.
             subst (AllByRecursion (PassesState setting deps ends rtype (map (queued_state config query) after))) (sym (map-append (queued_state config query) passed (item ∷ [])))
@@ -224,7 +240,7 @@ module _ (config : Config) (deps : Deps) (query : Labels) where
       → HasWalked config deps query queue passed ends → HasWalked config deps query other passed ends
   walked_among queue other passed ends more back so =
       record {
-        begins = λ state has. more state (so.begins state has);
+        begins = λ top has. begun_still queue other ends.fails ends.fails more (λ is. is) top (so.begins top has);
         comes = λ setting rtype of one has. so.comes setting rtype of one (back one has);
         steps = λ setting rtype of.
             all_so (PassesState setting deps ends rtype (map (queued_state config query) queue)) (PassesState setting deps ends rtype (map (queued_state config query) other))
@@ -251,53 +267,84 @@ module _ (config : Config) (deps : Deps) (query : Labels) where
   -- the queued states passed so far stay passed if the next one's server refers the name
   pub referral_passed : (queue after : List Queued) (at : ℕ) (ends : StraightEnds) (fails : Bool) (tree : Bor ZoneTree) (cut : ℕ) (item : Queued)
       → at < length queue → item ≡ get_or queue at item
-      → IfSome (slice_get queue at) (λ one. IsReply config query one.server.now (reply.Refers tree cut)) → HasPassed config deps query queue at ends
+      → IfSome (slice_get queue at) (λ one. IsReply config one.server.now query (reply.Refers tree cut)) → HasPassed config deps query queue at ends
       → AreReferrals config deps query item.server.now tree.now.zone (name_of tree.now cut) (ns_names tree.now.zone (name_of tree.now cut)) queue ends.fails after fails
       → HasPassed config deps query after (at + 1) (record ends { fails = fails })
   referral_passed queue after at ends fails tree cut item within is refers so on =
       one_passed queue after at ends (record ends { fails = fails }) item within is so
       (referral_passes item.server.now queue ends tree cut after fails referred on)
     where
-      referred : IsReply config query item.server.now (reply.Refers tree cut)
+      referred : IsReply config item.server.now query (reply.Refers tree cut)
       referred =
-          subst (λ (found : Option Queued). IfSome found (λ one. IsReply config query one.server.now (reply.Refers tree cut)))
+          subst (λ (found : Option Queued). IfSome found (λ one. IsReply config one.server.now query (reply.Refers tree cut)))
           (slice_get_read queue (length queue) at item refl within is) refers
 
-  -- if all queued states are passed, the query goes straight to the ends
+  module _ (queue : List Queued) (at : ℕ) (ends : StraightEnds) (so : HasPassed config deps query queue at ends) (all : length queue ≤ at) (setting : Setting)
+      (of : IsSettingOf config deps setting) (enough : ends.rewrites ≤ setting.rewrites) (rtype : RrType) where
+    abbrev queued : List State
+    queued = map (queued_state config query) queue
+
+    passes : AllByRecursion (PassesState setting deps ends rtype queued) queued
+    passes =
+        subst (λ (passed : List Queued). AllByRecursion (PassesState setting deps ends rtype queued) (map (queued_state config query) passed))
+        (take_all at queue all) (so.walked.steps setting rtype (record { is_of = of; rewrites = enough }))
+
+    -- the queued states with those behind them, and the states at all top servers
+    abbrev walked : List State
+    walked = with_behind setting deps ends rtype queued queued passes
+
+    abbrev reached : List State
+    reached = walked ++ start config query
+
+    walk_on : (state : State) → Contains walked state → StepsStraight setting deps ends rtype reached state
+    walk_on state has =
+        each_along (StepsStraight setting deps ends rtype reached) walked
+        (all_step setting deps ends rtype queued reached
+        (λ one among. Contains-append_left walked (start config query) one (still_there setting deps ends rtype queued queued passes one among))
+        queued passes (λ one among. Contains-append_left walked (start config query) one among))
+        state has
+
+    walk_from : (top : Labels) → IsBegun config query queue ends.fails top → StepsStraight setting deps ends rtype reached (state_at config query top 0)
+    walk_from top (inl has) = walk_on (state_at config query top 0) (still_there setting deps ends rtype queued queued passes (state_at config query top 0) has)
+    walk_from top (inr (fails, none)) =
+        subst (AllByRecursion (BranchStraight setting deps ends rtype reached (state_at config query top 0)))
+        (sym (outside_ends config query top none setting rtype 0 of.config_is)) (inl (inl (fails, inl refl)), tt)
+
+    each_walks : (state : State) → Contains reached state → StepsStraight setting deps ends rtype reached state
+    each_walks state has = by (Contains-append_cases walked (start config query) state has) where
+      by : Contains walked state ⊎ Contains (start config query) state → StepsStraight setting deps ends rtype reached state
+      by (inl among) = walk_on state among
+      by (inr first) =
+          let (top, has_top, is) = from_map (arrived config query true 0 None) config.tops state first in
+          subst (StepsStraight setting deps ends rtype reached) is (walk_from top (so.walked.begins top has_top))
+
+    few_reached : (most : ℕ) → length queue * (ends.rewrites + 1) ≤ most → length reached ≤ most + length config.tops
+    few_reached most few =
+        let in_all : length walked ≤ length queued * (ends.rewrites + 1) = few_in_all setting deps ends rtype queued (ends.rewrites + 1) (omega arith) queued passes in
+        let as_many : length queued * (ends.rewrites + 1) ≡ length queue * (ends.rewrites + 1) =
+        ap (λ (n : ℕ). n * (ends.rewrites + 1)) (length-map queue (queued_state config query)) in
+        omega (arith, few, length-append walked (start config query), length-map config.tops (arrived config query true 0 None))
+
+  -- if all queued states are passed, the query goes straight to the ends, over so many states besides as there are top
+  -- servers
   pub all_passed : (queue : List Queued) (at most : ℕ) (ends : StraightEnds) → HasPassed config deps query queue at ends → length queue ≤ at
-      → length queue * (ends.rewrites + 1) ≤ most → GoesStraightIn config deps ends.rewrites most query ends
+      → length queue * (ends.rewrites + 1) ≤ most → GoesStraightIn config deps ends.rewrites (most + length config.tops) query ends
   all_passed queue at most ends so all few setting of enough rtype =
       record {
-        states = with_behind setting deps ends rtype states states passes;
-        few =
-            let in_all : length (with_behind setting deps ends rtype states states passes) ≤ length states * (ends.rewrites + 1) =
-            few_in_all setting deps ends rtype states (ends.rewrites + 1) (omega arith) states passes in
-            let as_many : length states * (ends.rewrites + 1) ≡ length queue * (ends.rewrites + 1) =
-            ap (λ (n : ℕ). n * (ends.rewrites + 1)) (length-map queue (queued_state config query)) in
-            omega (arith, few);
+        states = reached queue at ends so all setting of enough rtype;
+        few = few_reached queue at ends so all setting of enough rtype most few;
         begins = λ state has.
-            still_there setting deps ends rtype states states passes state (so.walked.begins state (subst (λ (c : Config). Contains (start c query) state) of.config_is has));
-        steps = λ state has.
-            each_along (StepsStraight setting deps ends rtype (with_behind setting deps ends rtype states states passes)) (with_behind setting deps ends rtype states states passes)
-            (all_step setting deps ends rtype states (with_behind setting deps ends rtype states states passes) (still_there setting deps ends rtype states states passes)
-            states passes (λ one among. among))
-            state has;
+            Contains-append_right (walked queue at ends so all setting of enough rtype) (start config query) state
+            (subst (λ (c : Config). Contains (start c query) state) of.config_is has);
+        steps = each_walks queue at ends so all setting of enough rtype;
         told = λ outcome is. so.walked.told setting rtype outcome (record { is_of = of; rewrites = enough }) is;
       }
-    where
-      states : List State
-      states = map (queued_state config query) queue
-
-      passes : AllByRecursion (PassesState setting deps ends rtype (map (queued_state config query) queue)) (map (queued_state config query) queue)
-      passes =
-          subst (λ (passed : List Queued). AllByRecursion (PassesState setting deps ends rtype (map (queued_state config query) queue)) (map (queued_state config query) passed))
-          (take_all at queue all) (so.walked.steps setting rtype (record { is_of = of; rewrites = enough }))
 
   -- ends that are given only within the limits are ends to which the query goes straight
-  pub given_within : (rewrites most states : ℕ) (ends : StraightEnds) (given : Option StraightEnds) → IfSome given (λ found. found ≡ ends)
+  pub given_within : (rewrites most all states : ℕ) (ends : StraightEnds) (given : Option StraightEnds) → IfSome given (λ found. found ≡ ends)
       → IfSome given (λ found. states * (ends.rewrites + 1) ≤ most) → IfSome given (λ found. ends.rewrites ≤ rewrites)
-      → (states * (ends.rewrites + 1) ≤ most → HoldsOfEachTold config query (GoesStraightIn config deps ends.rewrites most) ends) → IfSome given (HoldsOfEachTold config query (GoesStraightIn config deps rewrites most))
-  given_within rewrites most states ends None same few fewer straight = tt
-  given_within rewrites most states ends (Some found) same few fewer straight =
-      subst (HoldsOfEachTold config query (GoesStraightIn config deps rewrites most)) (sym same)
+      → (states * (ends.rewrites + 1) ≤ most → HoldsOfEachTold config query (GoesStraightIn config deps ends.rewrites all) ends) → IfSome given (HoldsOfEachTold config query (GoesStraightIn config deps rewrites all))
+  given_within rewrites most all states ends None same few fewer straight = tt
+  given_within rewrites most all states ends (Some found) same few fewer straight =
+      subst (HoldsOfEachTold config query (GoesStraightIn config deps rewrites all)) (sym same)
       (λ name given_for told setting of enough rtype. straight few name given_for told setting of (omega (arith, fewer, enough)) rtype)

@@ -34,7 +34,7 @@ use Rattle.straight_walks.specs.Ends.{IsOutcomeOf}
 use Rattle.straight_walks.specs.Searching.{AnswersNothingBelow, AnswersSo, AnswerIsPut, nothing_below, nothing_there, state_at}
 use Rattle.straight_walks.specs.Straight.{NoOriginBetween}
 use Rattle.straight_walks.specs.declared.ends.StraightEnds.{StraightEnds}
-use Rattle.straight_walks.proofs.Replies.{nothing_decides}
+use Rattle.straight_walks.proofs.Replies.{nothing_answers}
 
 -- ---- no origin stands between
 
@@ -143,9 +143,13 @@ pub nothing_answered : (config : Config) (query server : Labels) (tree : Bor Zon
     → open_deciding tree.now.zone query ≡ ByNothing → AnswersNothingBelow config query server
 nothing_answered config query server tree nearest opens tail is zone =
     let near : nearest_of config server (query ++ tail) ≡ Some tree.now.zone = nearest_with_tail config query tail is server ∙ nearest in
-    nothing_decides config (query ++ tail) server tree (sym near)
-    (is_prefix_told tree.now.zone.origin (query ++ tail) (nearest_tells config server (query ++ tail) tree.now.zone near).1)
-    (open_tail tree.now.zone query tail (opens_in config query tail server tree.now.zone is nearest) ∙ opens)
+    nothing_answers config (query ++ tail) server tree (
+      near,
+      record {
+        inside = is_prefix_told tree.now.zone.origin (query ++ tail) (nearest_tells config server (query ++ tail) tree.now.zone near).1;
+        decides = open_tail tree.now.zone query tail (opens_in config query tail server tree.now.zone is nearest) ∙ opens;
+      },
+    )
 
 -- ---- the ends there
 

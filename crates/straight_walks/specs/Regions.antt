@@ -6,11 +6,10 @@ use Rattle.std.specs.List.Sorted.{IsStrictlySortedBy}
 use Rattle.std.specs.Ordering.{is_lt}
 use Rattle.dns_data.specs.Name.{Labels, is_prefix, name_cmp}
 use Rattle.net_model.specs.declared.deps.Deps.{Deps}
-use Rattle.net_model.specs.Step.{start}
 use Rattle.net_model.specs.declared.config.Config.{Config}
 use Rattle.net_model.specs.declared.config.Server.{Server}
 use Rattle.net_model.specs.declared.config.Zone.{Zone}
-use Rattle.straight_walks.specs.Searching.{Extends, IsSearch, PassesServer, queued_state, unanswered}
+use Rattle.straight_walks.specs.Searching.{Extends, IsSearch, PassesServer, unanswered}
 use Rattle.straight_walks.specs.Straight.{NoOriginBetween}
 use Rattle.straight_walks.specs.declared.queue.Queued.{Queued}
 use Rattle.straight_walks.specs.declared.searching.Search.{Search}
@@ -30,25 +29,18 @@ HasEachOrigin config origins = (server : Server) → Contains config.servers ser
 abbrev pub IsSearchBelow : Config → Deps → Labels → Search → Type 0
 IsSearchBelow config deps origin searched = (query : Labels) → NoOriginBetween config origin query → IsSearch config deps query searched
 
--- the search begins at the top servers: there its states are, for each name, and no other
-pub record IsRegionStart (config : Config) (search : RegionSearch) : Type 0 where
-  pub queue : (query : Labels) → map (queued_state config query) search.queue.items ≡ start config query
-  pub passed : search.passed.items ≡ []
-  pub answering : search.answering.items ≡ []
-  pub fails : search.fails ≡ false
-
 -- the state is put at the end of those that are passed: for the origin and each name below it with no other between
 -- walks go straight from it, and its server answers none of them
 pub record IsPassedMore (config : Config) (deps : Deps) (origin : Labels) (one : Queued) (before after : RegionSearch) : Type 0 where
-  pub extends : Extends before.queue.items after.queue.items
+  pub extends : Extends before.queue after.queue
   pub passed : after.passed.items ≡ before.passed.items ++ one ∷ []
   pub answering : after.answering.items ≡ before.answering.items
   pub passes : (query : Labels) → NoOriginBetween config origin query
-      → PassesServer config deps query one.server.now before.queue.items (unanswered before.fails) after.queue.items (unanswered after.fails)
+      → PassesServer config deps query one.server.now before.queue (unanswered before.fails) after.queue (unanswered after.fails)
 
 -- the state is put at the end of those whose servers answer, or redirect the query
 pub record IsAnsweringMore (one : Queued) (before after : RegionSearch) : Type 0 where
-  pub queue : after.queue.items ≡ before.queue.items
+  pub queue : after.queue ≡ before.queue
   pub passed : after.passed.items ≡ before.passed.items
   pub answering : after.answering.items ≡ before.answering.items ++ one ∷ []
   pub fails : after.fails ≡ before.fails
@@ -78,6 +70,6 @@ pub record IsPastName (name origin : Labels) : Type 0 where
   pub behind : is_lt (name_cmp name origin) ≡ true
   pub not_below : is_prefix name origin ≡ false
 
--- the regions are those of the configuration, with the two sets of learnt addresses
+-- the regions are those of the configuration, with the two sets of learnt addresses, and so are the top servers
 abbrev pub AreRegionsFor : Config → Deps → Regions → Type 0
-AreRegionsFor config deps made = AreRegions config deps made.regions.items
+AreRegionsFor config deps made = AreRegions config deps made.regions.items × (made.tops ≡ config)

@@ -1,19 +1,19 @@
 -- What servers reply, and searches over the states of walks: for the contracts of inner calls alone.
 use Rattle.std.specs.Prelude.{◌≡◌, ◌≢◌, ◌<◌, ◌≤◌, ◌+◌, ◌*◌, ℕ, Bool, true, false, ◌&&◌, List, [], ◌∷◌, ◌++◌, map, take, length, Contains, Option, Some, None, is_some, option_map, IfSome, ◌⊎◌}
 use Rattle.std.specs.List.{AllByRecursion, slice_get}
-use Rattle.dns_data.specs.Name.{Labels, is_prefix}
+use Rattle.dns_data.specs.Name.{Labels}
 use Rattle.dns_data.specs.RrType.{type_eq}
 use Rattle.dns_data.specs.declared.rr_type.RrType.{RrType}
 use Rattle.dns_data.specs.declared.rr_type.RrType.TheVariants as types
 use Rattle.net_model.specs.declared.deps.Deps.{Deps}
-use Rattle.net_model.specs.Lookup.{ByCut, ByNothing, ByRecords, ByRedirection, deciding, first_name}
+use Rattle.net_model.specs.Lookup.{ByNothing, ByRecords, deciding}
 use Rattle.net_model.specs.Nearest.{held_zone, nearest_of}
 use Rattle.net_model.specs.OpenTail.{open_deciding}
 use Rattle.net_model.specs.Shown.{is_authoritative}
 use Rattle.net_model.specs.Step.{Setting, Branch, Go, End, next, referred, start}
 use Rattle.net_model.specs.Tails.{IsUnnamedTail}
 use Rattle.net_model.specs.Walk.{IsWalk, walk_from}
-use Rattle.net_model.specs.Zone.{ns_names, targets_at}
+use Rattle.net_model.specs.Zone.{ns_names}
 use Rattle.net_model.specs.declared.config.Config.{Config}
 use Rattle.net_model.specs.declared.config.Zone.{Zone}
 use Rattle.net_model.specs.declared.place.Cut.{Cut}
@@ -26,6 +26,7 @@ use Rattle.net_model.specs.declared.walk.State.{State}
 use Rattle.net_model.specs.declared.walk.Walk.{Walk}
 use Rattle.walk_laws.specs.Outcome.{HasOutcome, outcome_of}
 use Rattle.zone_tree.specs.Tree.{ZoneTree, IsNode, name_of}
+use Rattle.zone_lookup.specs.Reply.{IsReply}
 use Rattle.zone_lookup.specs.Sound.{IsSound}
 use Rattle.straight_walks.specs.Answers.{AnswerOwners, ZoneOwner, leaf_of, owner_leaf, zone_owner}
 use Rattle.straight_walks.specs.Ends.{IsOutcomeOf}
@@ -38,8 +39,7 @@ use Rattle.straight_walks.specs.declared.referring.NextReferral.{NextReferral}
 use Rattle.straight_walks.specs.declared.referring.NextReferral.TheVariants as referring
 use Rattle.straight_walks.specs.declared.name_server.Referral.{Referral}
 use Rattle.straight_walks.specs.declared.name_server.Referral.TheVariants as referral
-use Rattle.straight_walks.specs.declared.server.Reply.{Reply}
-use Rattle.straight_walks.specs.declared.server.Reply.TheVariants as reply
+use Rattle.zone_lookup.specs.declared.reply.Reply.TheVariants as reply
 
 -- walks are read in the configuration, and the servers of the least set are followed
 pub record IsSettingOf (config : Config) (deps : Deps) (setting : Setting) : Type 0 where
@@ -186,30 +186,6 @@ AnswersAt config query server owner =
     (setting : Setting) (rtype : RrType) (state : State) → setting.config ≡ config → state.server ≡ server → state.name ≡ query
     → next setting rtype state ≡ End None (owner_leaf owner rtype) ∷ []
 
--- what the server replies to the query
-abbrev pub IsReply : Config → Labels → Labels → Reply → Type 0
-IsReply config query server reply.Outside = nearest_of config server query ≡ None
-IsReply config query server (reply.Records tree owner) =
-    IsNode tree.now owner
-    × (nearest_of config server query ≡ Some tree.now.zone)
-    × (deciding tree.now.zone query ≡ ByRecords (name_of tree.now owner))
-    × AnswersAt config query server (zone_owner tree.now (Some owner))
-IsReply config query server (reply.Alias tree owner target) =
-    IsNode tree.now owner
-    × (nearest_of config server query ≡ Some tree.now.zone)
-    × (deciding tree.now.zone query ≡ ByRecords (name_of tree.now owner))
-    × (first_name (targets_at tree.now.zone (name_of tree.now owner) types.Cname) ≡ Some target.now)
-IsReply config query server (reply.Redirects owner target) =
-    (zone : Zone) × (nearest_of config server query ≡ Some zone) × (deciding zone query ≡ ByRedirection owner.now (Some target.now))
-IsReply config query server (reply.Nothing tree) = AnswersAt config query server (zone_owner tree.now None)
-IsReply config query server (reply.Refers tree cut) =
-    IsNode tree.now cut
-    × (is_prefix tree.now.zone.origin (name_of tree.now cut) ≡ true)
-    × (held_zone config server tree.now.zone.origin ≡ Some tree.now.zone)
-    × (nearest_of config server query ≡ Some tree.now.zone)
-    × (deciding tree.now.zone query ≡ ByCut (name_of tree.now cut))
-IsReply config query server reply.Unclear = Unit {0}
-
 -- ---- rewrites
 
 -- walks from the state go on by rewrites alone, through these states, and end in the answer; a name to which a rewrite
@@ -307,10 +283,22 @@ pub record PassesServer (config : Config) (deps : Deps) (query server : Labels) 
 
 -- ---- searches
 
--- the search for the name begins at the top servers, and walks come to each queued state; from those that are passed
--- walks go straight, and the query has the outcomes of the ends
+-- the state at the top server is queued for the query; or the server holds no zone for it, and walks fail
+abbrev pub IsBegun : Config → Labels → List Queued → Bool → Labels → Type 0
+IsBegun config query queue fails top =
+    Contains (map (queued_state config query) queue) (state_at config query top 0) ⊎ ((fails ≡ true) × (nearest_of config top query ≡ None))
+
+-- The search for the query begins at each top server, and no other state is queued. Walks fail only where a top server holds
+-- no zone for the query.
+pub record BeginsAtTops (config : Config) (query : Labels) (queue : List Queued) (fails : Bool) : Type 0 where
+  pub each : (top : Labels) → Contains config.tops top → IsBegun config query queue fails top
+  pub only : (one : Queued) → Contains queue one → Contains (start config query) (queued_state config query one)
+  pub told : fails ≡ true → (top : Labels) × Contains config.tops top × (nearest_of config top query ≡ None)
+
+-- the search for the name begins at each top server, and walks come to each queued state; from those that are passed walks go
+-- straight, and the query has the outcomes of the ends
 pub record HasWalked (config : Config) (deps : Deps) (query : Labels) (queue passed : List Queued) (ends : StraightEnds) : Type 0 where
-  pub begins : (state : State) → Contains (start config query) state → Contains (map (queued_state config query) queue) state
+  pub begins : (top : Labels) → Contains config.tops top → IsBegun config query queue ends.fails top
   pub comes : (setting : Setting) (rtype : RrType) → IsSettingOf config deps setting → (one : Queued) → Contains queue one
       → IsComeTo setting query rtype (queued_state config query one)
   pub steps : (setting : Setting) (rtype : RrType) → IsSettingFor config deps ends setting
@@ -342,16 +330,16 @@ GoesStraightIn config deps rewrites most query ends =
     (setting : Setting) → IsSettingOf config deps setting → rewrites ≤ setting.rewrites → (rtype : RrType) → GoesStraight setting deps most query ends rtype
 
 -- the next referral of a search that has passed so many of the states, with what walks end in before and after: where
--- walks end at all of them the query goes straight; where a server refers the query the search has passed all up to
--- that state
+-- walks end at all of them the query goes straight, over so many states besides as there are top servers; where a server
+-- refers the query the search has passed all up to that state
 abbrev pub IsNextReferral : Config → Labels → List Queued → ℕ → StraightEnds → StraightEnds → NextReferral → Type 0
 IsNextReferral config query queue before ends_before ends referring.Ends =
     (deps : Deps) → HavePassed config deps query queue before ends_before
-    → (most : ℕ) → length queue * (ends.rewrites + 1) ≤ most → HoldsOfEachTold config query (GoesStraightIn config deps ends.rewrites most) ends
+    → (most : ℕ) → length queue * (ends.rewrites + 1) ≤ most → HoldsOfEachTold config query (GoesStraightIn config deps ends.rewrites (most + length config.tops)) ends
 IsNextReferral config query queue before ends_before ends (referring.Refers passed tree cut) =
     (before ≤ passed)
     × (passed < length queue)
-    × IfSome (slice_get queue passed) (λ one. IsReply config query one.server.now (reply.Refers tree cut))
+    × IfSome (slice_get queue passed) (λ one. IsReply config one.server.now query (reply.Refers tree cut))
     × ((deps : Deps) → HavePassed config deps query queue before ends_before → HavePassed config deps query queue passed ends)
 IsNextReferral config query queue before ends_before ends referring.NoMemory = Unit {0}
 IsNextReferral config query queue before ends_before ends referring.Unclear = Unit {0}

@@ -3,9 +3,8 @@
 ghost use Rattle.std.specs.Prelude.{IfSome};
 ghost use Rattle.straight_walks.specs.Searching.{IsAliasEnd};
 
-use crate::server::{Reply, reply_of};
 use dns_data::Name;
-use zone_lookup::{Hosts, Near};
+use zone_lookup::{Hosts, Near, Reply, reply_near};
 use zone_tree::{NodeId, Tree};
 
 /// No more aliases than these are followed one behind the other.
@@ -30,7 +29,7 @@ pub(crate) fn alias_end<'h, 'a>(
 ) -> Option<AliasEnd<'h, 'a>>
     ensures { IfSome result (IsAliasEnd hosts.now server.now name.now rewrites) }
 {
-    match reply_of(hosts, near, name, server) {
+    match reply_near(hosts, near, server, name) {
         Reply::Records(tree, owner) => Some(AliasEnd {
             tree,
             owner,

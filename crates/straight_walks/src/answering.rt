@@ -1,19 +1,20 @@
 //! What servers answer to queries, put to the ends of walks.
 
 ghost use Rattle.std.specs.Prelude.{◌≡◌, true, IfOk};
-ghost use Rattle.straight_walks.specs.Searching.{IsAnswered, IsAnsweredBehind, IsReply};
-ghost use Rattle.straight_walks.specs.declared.server.Reply.TheVariants as reply_as;
+ghost use Rattle.zone_lookup.specs.Reply.{IsReply};
+ghost use Rattle.straight_walks.specs.Searching.{IsAnswered, IsAnsweredBehind};
+ghost use Rattle.zone_lookup.specs.declared.reply.Reply.TheVariants as reply_as;
 
 use crate::aliases::alias_end;
 use crate::answers::ZoneAnswer;
 use crate::below::has_nothing_below;
 use crate::ends::StraightEnds;
 use crate::queue::Queued;
-use crate::server::{Reply, reply_of};
 use dns_data::{JoinFault, Name, NoMemory};
 use name_rules::substitute;
 use std::alloc::Global;
-use zone_lookup::Hosts;
+use zone_lookup::{Hosts, Reply, reply_near};
+use zone_tree::{NodeId, Tree};
 
 /// Whether the state's server, which gives the query this reply, is seen to answer as each one before. What it answers is
 /// put to the others. It isn't so where it gives no answer.
@@ -25,7 +26,7 @@ pub(crate) fn put_answer<'h, 'a>(
     reply: Reply<'h, 'a>,
     ends: &mut StraightEnds<'h, 'a>,
 ) -> Result<bool, NoMemory>
-    requires { IsReply hosts.now query.now one.server.now reply }
+    requires { IsReply hosts.now one.server.now query.now reply }
     ensures { IfOk result (λ answered. answered ≡ true → IsAnswered hosts.now query.now one.entry.server.now ends.old ends.new) }
 {
     match reply {
@@ -43,11 +44,11 @@ pub(crate) fn put_answer<'h, 'a>(
                 None => Ok(false),
             }
         }
-        Reply::Redirects(owner, target) => {
-            put_redirected(alloc, hosts, one, query, owner, target, ends)
+        Reply::Redirects(tree, owner, target) => {
+            put_redirected(alloc, hosts, one, query, tree, owner, target, ends)
         }
         Reply::Nothing(tree) => Ok(ends.put(ZoneAnswer::of_nothing(tree), 0, false)),
-        Reply::Outside | Reply::Refers(..) | Reply::Unclear => Ok(false),
+        Reply::Outside | Reply::Refers(..) => Ok(false),
     }
 }
 
@@ -59,14 +60,15 @@ fn put_redirected<'h, 'a>(
     hosts: &'h Hosts<'a>,
     one: Queued<'a>,
     query: &Name,
-    owner: &Name,
-    target: &Name,
+    tree: &Tree<'a>,
+    owner: NodeId,
+    target: &'a Name,
     ends: &mut StraightEnds<'h, 'a>,
 ) -> Result<bool, NoMemory>
-    requires { IsReply hosts.now query.now one.server.now (reply_as.Redirects owner target) }
+    requires { IsReply hosts.now one.server.now query.now (reply_as.Redirects tree owner target) }
     ensures { IfOk result (λ answered. answered ≡ true → IsAnswered hosts.now query.now one.entry.server.now ends.old ends.new) }
 {
-    match substitute(alloc, query, owner, target) {
+    match substitute(alloc, query, tree.name(owner), target) {
         Ok(to) => Ok(put_behind(hosts, one, &to, ends)),
         Err(JoinFault::TooLong) => Ok(false),
         Err(JoinFault::NoMemory) => Err(NoMemory),
@@ -83,7 +85,7 @@ fn put_behind<'h, 'a>(
 ) -> bool
     ensures { result ≡ true → IsAnsweredBehind hosts.now one.entry.server.now name.now 1 ends.old ends.new }
 {
-    match reply_of(hosts, one.near, name, one.server) {
+    match reply_near(hosts, one.near, one.server, name) {
         Reply::Records(tree, owner) => ends.put(ZoneAnswer::of_owner(tree, owner), 1, false),
         Reply::Alias(tree, owner, target) => {
             match alias_end(hosts, one.near, one.server, target, 2) {

@@ -7,11 +7,11 @@ ghost use Rattle.straight_walks.specs.Searching.{AnswerIsPut, failing};
 use crate::answers::ZoneAnswer;
 use dns_data::RrType;
 
-/// What walks end in that go straight: each server that answers answers this, where some walk ends in an answer, and
-/// some walks may end where no server answers. No walk is rewritten more often than so. It is told whether they are known
-/// to be the ends of each name below the query too, with no origin of a zone between; and whether it is known what the
-/// walks of the query with any unnamed tail end in: a name below it, of which the configuration names no front that is
-/// longer than the query.
+/// What walks end in that go straight. Each server that answers answers this; there is none if no walk ends in an answer.
+/// It fails if some walk ends where no server answers. No walk is rewritten more often than so. With `below` these are the
+/// ends too of each name below the query that has no origin of a zone between. With `unnamed_below` it is known what walks
+/// end in of the query with any unnamed tail: a name below it, of which the configuration names no front longer than the
+/// query.
 #[derive(Drop)]
 pub struct StraightEnds<'h, 'a> {
     pub answer: Option<ZoneAnswer<'h, 'a>>,

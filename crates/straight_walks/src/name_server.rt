@@ -1,17 +1,21 @@
 //! Referrals to one name server.
 
-ghost use Rattle.std.specs.Prelude.{◌≡◌, true, Some, None, IfOk};
+ghost use Rattle.std.specs.Borrow.{Bor};
+ghost use Rattle.std.specs.Prelude.{◌≡◌, ℕ, true, Some, None, IfOk};
 ghost use Rattle.dns_data.specs.Name.{Labels, is_prefix};
 ghost use Rattle.net_model.specs.declared.deps.Deps.{Deps};
 ghost use Rattle.net_model.specs.Nearest.{held_zone, server_named};
 ghost use Rattle.net_model.specs.declared.config.Config.{Config};
-ghost use Rattle.zone_tree.specs.Tree.{IsNode, name_of};
+ghost use Rattle.net_model.specs.Step.{following};
+ghost use Rattle.zone_lookup.specs.declared.leads.Lead.TheVariants as lead;
+ghost use Rattle.zone_lookup.specs.Leads.{IsLead};
+ghost use Rattle.zone_lookup.specs.LentCut.{cut_of};
+ghost use Rattle.zone_tree.specs.Tree.{ZoneTree, IsNode, name_of};
 ghost use Rattle.straight_walks.specs.Searching.{EndsOutside, IsReferral};
 
 use dns_data::{Name, NoMemory};
-use net_model::Cut;
 use std::alloc::Global;
-use zone_lookup::{Host, Hosts, LearntSets, has_glue_below};
+use zone_lookup::{Hosts, LearntSets, LentCut, has_glue_below};
 use zone_tree::{NodeId, Tree};
 
 /// A referral to a name server that shows no fault: walks end there, since it isn't configured, or go on to it. Of other
@@ -39,28 +43,21 @@ pub(crate) fn ends_outside(hosts: &Hosts<'_>, tree: &Tree<'_>, cut: NodeId, ns: 
     }
 }
 
-/// The referral of the query to the cut's name server, which is this host.
-pub(crate) fn referral_to_host(
+/// The referral of the query to the cut's name server, which leads there so while the servers of the least set are followed.
+pub(crate) fn referral_on(
     alloc: Global,
     hosts: &Hosts<'_>,
-    host: &Host<'_>,
     sets: &LearntSets,
-    query: &Name,
-    cut: &Cut,
+    cut: LentCut<'_>,
 ) -> Result<Referral, NoMemory>
-    requires inside { is_prefix cut.now.zone cut.now.cut ≡ true }
-    requires host { Some host.now ≡ server_named hosts.now cut.now.ns }
-    ensures { IfOk result (IsReferral hosts.now sets.now query.now cut.now) }
+    requires { is_prefix cut.zone.now cut.cut.now ≡ true }
+    ensures { IfOk result (λ referral. (rewrites : ℕ) (query : Labels) (tree : Bor ZoneTree)
+        → IsLead (following hosts.now rewrites sets.now.least) (cut_of cut.entry) query (lead.Goes tree) → IsReferral hosts.now sets.now query (cut_of cut.entry) referral) }
 {
-    if !sets.is_sound(alloc, hosts, cut)? {
-        return Ok(Referral::Unclear);
-    }
-    if !sets.may_follow(hosts, cut) {
-        return Ok(Referral::Unclear);
-    }
-    match host.nearest(query) {
-        Some(tree) if cut.cut.is_prefix_of(&tree.zone().origin) => Ok(Referral::GoesOn),
-        _ => Ok(Referral::Unclear),
+    if sets.is_sound(alloc, hosts, cut)? {
+        Ok(Referral::GoesOn)
+    } else {
+        Ok(Referral::Unclear)
     }
 }
 

@@ -7,12 +7,11 @@ ghost use Rattle.net_model.specs.Zone.{ns_names};
 ghost use Rattle.zone_tree.specs.Tree.{IsNode, name_of};
 ghost use Rattle.straight_walks.specs.Searching.{AllEndOutside, AreReferrals, IsReferral};
 
-use crate::name_server::{Referral, ends_outside, referral_to_host, referral_to_unhosted};
-use crate::queue::{Queued, enqueue};
+use crate::name_server::{Referral, ends_outside, referral_on, referral_to_unhosted};
+use crate::queue::Queue;
 use dns_data::{Name, NoMemory};
-use net_model::Cut;
 use std::alloc::Global;
-use zone_lookup::{Hosts, LearntSets};
+use zone_lookup::{Hosts, Lead, LearntSets, LentCut, Walker};
 use zone_tree::{NodeId, Tree};
 
 /// Whether none of the name servers of a zone cut is configured, so that walks end at all of them, and the referrals are
@@ -41,19 +40,19 @@ pub(crate) fn queue_referrals<'a>(
     server: &Name,
     tree: &Tree<'a>,
     cut: NodeId,
-    queue: &mut Vec<Queued<'a>>,
+    queue: &mut Queue<'a>,
     fails: &mut bool,
 ) -> Result<bool, NoMemory>
     requires node { IsNode tree.now cut }
     requires inside { is_prefix tree.now.zone.origin (name_of tree.now cut) ≡ true }
     requires held { held_zone hosts.now server.now tree.now.zone.origin ≡ Some tree.now.zone }
     ensures { IfOk result (λ straight. straight ≡ true
-        → AreReferrals hosts.now sets.now query.now server.now tree.now.zone (name_of tree.now cut) (ns_names tree.now.zone (name_of tree.now cut)) queue.old.items fails.old queue.new.items fails.new) }
+        → AreReferrals hosts.now sets.now query.now server.now tree.now.zone (name_of tree.now cut) (ns_names tree.now.zone (name_of tree.now cut)) queue.old fails.old queue.new fails.new) }
 {
     for ns in tree.name_servers(cut) {
         match referral_to(alloc, hosts, sets, query, server, tree, cut, ns)? {
             Referral::Ends => *fails = true,
-            Referral::GoesOn => enqueue(hosts, query, queue, ns, tree.name(cut).len())?,
+            Referral::GoesOn => queue.put(hosts, query, ns, tree.name(cut).len())?,
             Referral::Unclear => return Ok(false),
         }
     }
@@ -76,16 +75,15 @@ fn referral_to(
     requires held { held_zone hosts.now server.now tree.now.zone.origin ≡ Some tree.now.zone }
     ensures { IfOk result (IsReferral hosts.now sets.now query.now (record { server = server.now; zone = tree.now.zone.origin; cut = name_of tree.now cut; ns = ns.now })) }
 {
-    match hosts.host(ns) {
-        Some(host) => {
-            let cut = Cut {
-                server: server.copy(alloc)?,
-                zone: tree.zone().origin.copy(alloc)?,
-                cut: tree.name(cut).copy(alloc)?,
-                ns: ns.copy(alloc)?,
-            };
-            referral_to_host(alloc, hosts, host, sets, query, &cut)
-        }
-        None => Ok(referral_to_unhosted(tree, cut, ns)),
+    let to = LentCut {
+        server,
+        zone: &tree.zone().origin,
+        cut: tree.name(cut),
+        ns,
+    };
+    match Walker::following_least(hosts, 0, sets).leads(to, query) {
+        Lead::Goes(_) => referral_on(alloc, hosts, sets, to),
+        Lead::Unhosted => Ok(referral_to_unhosted(tree, cut, ns)),
+        Lead::NoAddress | Lead::Lame => Ok(Referral::Unclear),
     }
 }

@@ -6,10 +6,9 @@ use crate::answering::put_answer;
 use crate::ends::StraightEnds;
 use crate::queue::Queued;
 use crate::referrals::all_end_outside;
-use crate::server::{Reply, reply_of};
 use dns_data::{Name, NoMemory};
 use std::alloc::Global;
-use zone_lookup::Hosts;
+use zone_lookup::{Hosts, Reply, reply_near};
 use zone_tree::{NodeId, Tree};
 
 /// The next referral of a search over the queued states that it hasn't passed yet: there is none, walks end at all of
@@ -30,6 +29,7 @@ pub(crate) enum NextReferral<'h, 'a> {
 
 /// The next referral of the search that has passed this many of the queued states. What walks end in at the states on the
 /// way is put to what they ended in before. It takes memory for labels and names alone that it makes.
+#[tactic(auto, using(crate::proofs::Replies::refers_inside, crate::proofs::Replies::refers_held))]
 pub(crate) fn next_referral<'h, 'a>(
     alloc: Global,
     hosts: &'h Hosts<'a>,
@@ -43,7 +43,7 @@ pub(crate) fn next_referral<'h, 'a>(
     let mut passed = passed;
     while passed < queue.len() {
         let one = queue[passed];
-        let passes = match reply_of(hosts, one.near, query, one.server) {
+        let passes = match reply_near(hosts, one.near, one.server, query) {
             Reply::Outside => {
                 ends.put_failing();
                 true

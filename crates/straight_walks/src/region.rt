@@ -1,16 +1,15 @@
 //! The search for all names whose nearest origin is the same.
 
-ghost use Rattle.std.specs.Prelude.{◌≡◌, ◌++◌, true, length, IfOk, IfSome};
-ghost use Rattle.straight_walks.specs.Regions.{IsLookedAt, IsRegionStart, IsSearchBelow};
+ghost use Rattle.std.specs.Prelude.{◌≡◌, ◌++◌, [], true, length, IfOk, IfSome};
+ghost use Rattle.straight_walks.specs.Regions.{IsLookedAt, IsSearchBelow};
 
-use crate::queue::{Queued, start_states};
+use crate::queue::{Queue, Queued};
 use crate::referrals::queue_referrals;
 use crate::searching::Search;
-use crate::server::{Reply, reply_of};
 use crate::straight::MOST;
 use dns_data::{Name, NoMemory};
 use std::alloc::Global;
-use zone_lookup::{Hosts, LearntSets, Named};
+use zone_lookup::{Hosts, LearntSets, Named, Reply, TopServers, reply_near};
 
 /// An origin of a zone, with the search for each name whose nearest origin it is.
 #[derive(Drop)]
@@ -33,13 +32,15 @@ pub(crate) fn search_below<'a>(
     alloc: Global,
     hosts: &Hosts<'a>,
     sets: &LearntSets,
+    tops: &TopServers<'a>,
     origin: &Name,
 ) -> Result<Search<'a>, NoMemory>
+    requires { tops.now ≡ hosts.now }
     ensures { IfOk result (IsSearchBelow hosts.now sets.now origin.now) }
 {
-    match search_of_origin(alloc, hosts, sets, origin)? {
+    match search_of_origin(alloc, hosts, sets, tops, origin)? {
         Some(searched) => Ok(searched),
-        None => Search::at_top(alloc, hosts, origin),
+        None => Search::at_top(alloc, hosts, tops, origin),
     }
 }
 
@@ -49,17 +50,21 @@ fn search_of_origin<'a>(
     alloc: Global,
     hosts: &Hosts<'a>,
     sets: &LearntSets,
+    tops: &TopServers<'a>,
     origin: &Name,
 ) -> Result<Option<Search<'a>>, NoMemory>
+    requires { tops.now ≡ hosts.now }
     ensures { IfOk result (λ searched. IfSome searched (IsSearchBelow hosts.now sets.now origin.now)) }
 {
-    let mut search = RegionSearch::at_top(alloc, hosts, origin)?;
+    let most = MOST;
+    let searched = Search::at_top(alloc, hosts, tops, origin)?;
+    let mut search = RegionSearch::begun(alloc, searched);
     let mut at = 0;
     while at < search.queue.len() {
-        if search.queue.len() > MOST as usize {
+        if search.queue.len() > most {
             return Ok(None);
         }
-        let one = search.queue[at];
+        let one = search.queue.as_slice()[at];
         if !search.look_at(alloc, hosts, sets, origin, one)? {
             return Ok(None);
         }
@@ -73,29 +78,32 @@ fn search_of_origin<'a>(
 /// answers.
 #[derive(Drop)]
 struct RegionSearch<'a> {
-    queue: Vec<Queued<'a>>,
+    queue: Queue<'a>,
     passed: Vec<Queued<'a>>,
     answering: Vec<Queued<'a>>,
     fails: bool,
 }
 
 impl<'a> RegionSearch<'a> {
-    /// The search that begins at the top servers.
-    fn at_top(alloc: Global, hosts: &Hosts<'a>, origin: &Name) -> Result<RegionSearch<'a>, NoMemory>
-        ensures { IfOk result (IsRegionStart hosts.now) }
+    /// The search that has begun so, and has looked at no state.
+    fn begun(alloc: Global, searched: Search<'a>) -> RegionSearch<'a>
+        ensures queue { result.queue ≡ searched.entry.queue.items }
+        ensures passed { result.passed.items ≡ [] }
+        ensures answering { result.answering.items ≡ [] }
+        ensures fails { result.fails ≡ searched.entry.fails }
     {
-        let queue = start_states(alloc, hosts, origin)?;
-        Ok(RegionSearch {
-            queue,
+        RegionSearch {
+            queue: Queue::of(alloc, searched.queue),
             passed: Vec::new(alloc),
             answering: Vec::new(alloc),
-            fails: false,
-        })
+            fails: searched.fails,
+        }
     }
 
     /// Whether walks for the origin go straight from the state. It is put at the end of those that are passed, and the
     /// states to which its server refers the query are queued; or, where its server answers or redirects the query, at
     /// the end of those whose servers do.
+    #[tactic(auto, using(crate::proofs::Replies::refers_inside, crate::proofs::Replies::refers_held))]
     fn look_at(
         &mut self,
         alloc: Global,
@@ -106,7 +114,7 @@ impl<'a> RegionSearch<'a> {
     ) -> Result<bool, NoMemory>
         ensures { IfOk result (λ straight. straight ≡ true → IsLookedAt hosts.now sets.now origin.now one.entry self.old self.new) }
     {
-        match reply_of(hosts, one.near, origin, one.server) {
+        match reply_near(hosts, one.near, one.server, origin) {
             Reply::Outside => {
                 self.fails = true;
                 self.passed.push(one)?;
@@ -133,7 +141,6 @@ impl<'a> RegionSearch<'a> {
                 self.passed.push(one)?;
                 Ok(true)
             }
-            Reply::Unclear => Ok(false),
         }
     }
 

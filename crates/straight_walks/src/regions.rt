@@ -15,12 +15,13 @@ use crate::searching::Search;
 use dns_data::{Name, NoMemory};
 use std::alloc::Global;
 use std::cmp::Ordering;
-use zone_lookup::{Hosts, LearntSets, nearest_item};
+use zone_lookup::{Hosts, LearntSets, TopServers, nearest_item};
 
 /// The origins of a configuration's zones, each with the states to which walks for the names below it come, as far as
 /// these are the same for all names that have no other origin between.
 #[derive(Drop)]
 pub struct Regions<'a> {
+    tops: TopServers<'a>,
     regions: Vec<Region<'a>>,
 }
 
@@ -34,8 +35,16 @@ impl<'a> Regions<'a> {
         ensures { IfOk result (AreRegionsFor hosts.now sets.now) }
     {
         let origins = origins_of(alloc, hosts.config())?;
-        let regions = regions_of(alloc, hosts, sets, origins.as_slice())?;
-        Ok(Regions { regions })
+        let tops = TopServers::of(alloc, hosts)?;
+        let regions = regions_of(alloc, hosts, sets, &tops, origins.as_slice())?;
+        Ok(Regions { tops, regions })
+    }
+
+    /// The top servers by the origins of their zones.
+    pub(crate) fn tops(&self) -> &TopServers<'a>
+        ensures { result.now ≡ self.now.tops }
+    {
+        &self.tops
     }
 
     /// Whether no server has a zone with an origin below the name, where the region at a place and the next one tell it: at
@@ -84,14 +93,16 @@ fn regions_of<'a>(
     alloc: Global,
     hosts: &Hosts<'a>,
     sets: &LearntSets,
+    tops: &TopServers<'a>,
     origins: &[&'a Name],
 ) -> Result<Vec<Region<'a>>, NoMemory>
+    requires { tops.now ≡ hosts.now }
     ensures origins { IfOk result (λ regions. region_origins regions.items ≡ map (λ origin. origin.now) origins.now) }
     ensures each { IfOk result (λ regions. AllByRecursion (IsRegion hosts.now sets.now) regions.items) }
 {
     let mut regions = Vec::new(alloc);
     for origin in origins {
-        let searched = search_below(alloc, hosts, sets, origin)?;
+        let searched = search_below(alloc, hosts, sets, tops, origin)?;
         regions.push(Region { origin, searched })?;
     }
     Ok(regions)

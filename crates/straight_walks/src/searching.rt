@@ -1,14 +1,13 @@
 //! Searches over the states of walks.
 
-ghost use Rattle.std.specs.Prelude.{IfOk};
-ghost use Rattle.dns_data.specs.Name.{Labels};
+ghost use Rattle.std.specs.Prelude.{◌≡◌, IfOk};
 ghost use Rattle.net_model.specs.declared.deps.Deps.{Deps};
-ghost use Rattle.straight_walks.specs.Searching.{IsSearch};
+ghost use Rattle.straight_walks.specs.Regions.{IsSearchBelow};
 
 use crate::queue::{Queued, start_states};
 use dns_data::{Name, NoMemory};
 use std::alloc::Global;
-use zone_lookup::Hosts;
+use zone_lookup::{Hosts, TopServers};
 
 /// A search over the states to which walks for a name come: the queue of them, how many of the first ones it has
 /// passed, and whether some walk ends there where no zone answers. No server answers there: walks end so, or go on to
@@ -21,16 +20,23 @@ pub(crate) struct Search<'a> {
 }
 
 impl<'a> Search<'a> {
-    /// The search that begins at the top servers, for any name. Their zones are looked for near those in which the
-    /// servers look this name up.
-    pub fn at_top(alloc: Global, hosts: &Hosts<'a>, name: &Name) -> Result<Search<'a>, NoMemory>
-        ensures { IfOk result (λ searched. (deps : Deps) (query : Labels) → IsSearch hosts.now deps query searched) }
+    /// The search that begins at the top servers, for the name and those below it that have no origin between.
+    pub(crate) fn at_top(
+        alloc: Global,
+        hosts: &Hosts<'a>,
+        tops: &TopServers<'a>,
+        name: &Name,
+    ) -> Result<Search<'a>, NoMemory>
+        requires { tops.now ≡ hosts.now }
+        ensures is { IfOk result (λ searched. (deps : Deps) → IsSearchBelow hosts.now deps name.now searched) }
+        ensures first { IfOk result (λ searched. searched.passed ≡ 0) }
     {
-        let queue = start_states(alloc, hosts, name)?;
+        let queue = start_states(alloc, hosts, tops, name)?;
+        let fails = queue.len() < tops.count();
         Ok(Search {
             queue,
             passed: 0,
-            fails: false,
+            fails,
         })
     }
 }

@@ -12,14 +12,15 @@ ghost use Rattle.net_model.specs.Tails.{IsUnnamedTail};
 ghost use Rattle.net_model.specs.Tree.{HasMoreThan, IsReached};
 ghost use Rattle.net_model.specs.Walk.{IsBoundedWith};
 ghost use Rattle.straight_walks.specs.Ends.{IsOutcomeOf};
-ghost use Rattle.straight_walks.specs.Searching.{HavePassed, IsReply, GoesStraightIn, HoldsOfEachTold};
-ghost use Rattle.straight_walks.specs.declared.server.Reply.TheVariants as reply_as;
+ghost use Rattle.zone_lookup.specs.Reply.{IsReply};
+ghost use Rattle.straight_walks.specs.Searching.{HavePassed, GoesStraightIn, HoldsOfEachTold};
+ghost use Rattle.zone_lookup.specs.declared.reply.Reply.TheVariants as reply_as;
 ghost use Rattle.straight_walks.specs.Regions.{AreRegionsFor, IsSearchBelow};
 ghost use Rattle.straight_walks.specs.Straight.{NoOriginBetween};
 ghost use Rattle.walk_laws.specs.Outcome.{HasOutcome};
 
 use crate::ends::StraightEnds;
-use crate::queue::Queued;
+use crate::queue::Queue;
 use crate::referrals::queue_referrals;
 use crate::referring::{NextReferral, next_referral};
 use crate::regions::Regions;
@@ -30,23 +31,27 @@ use zone_lookup::{Hosts, LearntSets};
 use zone_tree::{NodeId, Tree};
 
 /// No more states than these are looked at.
-pub(crate) const MOST: u32 = 32;
+pub(crate) const MOST: usize = 4096;
 
-/// How many rewrites each walk may use, and how many states may be looked at, with those behind rewrites.
+/// How many rewrites each walk may use, and how many states may be looked at, with those behind rewrites. The states at
+/// all top servers count besides: walks of each query begin there.
 #[derive(Clone, Copy)]
 struct Limits {
     rewrites: u32,
     states: usize,
 }
 
-/// What the walks of a query end in, where they are seen to go straight over few enough pairs of state and type, or
-/// `None`. Each walk may use so many rewrites. Then the query shows no fault, with no type does a walk of it end in a
-/// name of more than 255 octets (RFC 6672 section 2.2), and it has the outcomes of these ends and no others. Where they
-/// are known to be the ends of each name below the query with no origin of a zone between, such a name shows no fault
-/// either; nor does the query with any unnamed tail, where it is known what its walks end in. The sets are the least and
-/// the greatest set of learnt addresses; the servers of the least set are followed.
-/// The regions are those of the same servers and sets. The query's region is looked for near a place first, whatever
-/// that is, and the place is left near which that of the next query may be looked for.
+/// What the walks of a query end in, where they are seen to go straight over few enough pairs of state and type, or `None`.
+/// Each walk may use so many rewrites and follows the servers of the least set; the sets are the least and the greatest set
+/// of learnt addresses.
+///
+/// Where ends are given the query shows no fault, and has the outcomes of these ends and no others. If the ends say
+/// `below`, no name below the query shows a fault that has no origin of a zone between. If they say `unnamed_below`, the
+/// query with an unnamed tail shows none.
+///
+/// The regions are those of the same servers and sets. The query's region is looked for near a place first, whatever that
+/// is, and the place is left near which that of the next query may be looked for. With no type does a walk of the query end
+/// in a name of more than 255 octets (RFC 6672 section 2.2).
 pub fn straight_ends<'h, 'a>(
     alloc: Global,
     hosts: &'h Hosts<'a>,
@@ -76,12 +81,25 @@ pub fn straight_ends<'h, 'a>(
         → (rtype : RrTypeValue) (fault : FaultValue)
         → Shows (with_lists (following hosts.now rewrites sets.now.least) sets.now.least sets.now.greatest) (query.now ++ tail) rtype fault → ⊥)) }
 {
-    let most = (states / RrType::COUNT as u32).min(MOST);
-    let limits = Limits {
-        rewrites,
-        states: most as usize,
+    let Some(states) = states_left(hosts, states) else {
+        return Ok(None);
     };
+    let limits = Limits { rewrites, states };
     ends_by_region(alloc, hosts, sets, regions, near, query, limits)
+}
+
+/// How many states may be looked at where so many pairs of state and type may be reached, or `None` where the states at
+/// the top servers are more already.
+fn states_left(hosts: &Hosts<'_>, pairs: u32) -> Option<usize>
+    ensures { IfSome result (λ left. (left + length hosts.now.tops) * 12 ≤ pairs) }
+{
+    let tops = hosts.config().tops.len();
+    let most = pairs as usize / RrType::COUNT;
+    if tops <= most {
+        Some((most - tops).min(MOST))
+    } else {
+        None
+    }
 }
 
 /// What walks end in that go straight within the limits, from the states of the search of the query's region, or from
@@ -96,12 +114,12 @@ fn ends_by_region<'h, 'a>(
     limits: Limits,
 ) -> Result<Option<StraightEnds<'h, 'a>>, NoMemory>
     requires { AreRegionsFor hosts.now sets.now regions.now }
-    ensures { IfOk result (λ found. IfSome found (HoldsOfEachTold hosts.now query.now (GoesStraightIn hosts.now sets.now limits.rewrites limits.states))) }
+    ensures { IfOk result (λ found. IfSome found (HoldsOfEachTold hosts.now query.now (GoesStraightIn hosts.now sets.now limits.rewrites (limits.states + length hosts.now.tops)))) }
 {
     match regions.search_for(near, query) {
         Some(searched) => ends_from(alloc, hosts, sets, query, searched, limits),
         None => {
-            let searched = Search::at_top(alloc, hosts, query)?;
+            let searched = Search::at_top(alloc, hosts, regions.tops(), query)?;
             ends_from(alloc, hosts, sets, query, &searched, limits)
         }
     }
@@ -118,7 +136,7 @@ fn ends_from<'h, 'a>(
     limits: Limits,
 ) -> Result<Option<StraightEnds<'h, 'a>>, NoMemory>
     requires { IsSearchBelow hosts.now sets.now query.now searched.now }
-    ensures { IfOk result (λ found. IfSome found (HoldsOfEachTold hosts.now query.now (GoesStraightIn hosts.now sets.now limits.rewrites limits.states))) }
+    ensures { IfOk result (λ found. IfSome found (HoldsOfEachTold hosts.now query.now (GoesStraightIn hosts.now sets.now limits.rewrites (limits.states + length hosts.now.tops)))) }
 {
     let queue = searched.queue.as_slice();
     if queue.len() > limits.states {
@@ -136,7 +154,7 @@ fn ends_from<'h, 'a>(
         NextReferral::NoMemory => Err(NoMemory),
         NextReferral::Unclear => Ok(None),
         NextReferral::Refers { passed, tree, cut } => {
-            let mut queue = Vec::from_slice(alloc, queue)?;
+            let mut queue = Queue::of(alloc, Vec::from_slice(alloc, queue)?);
             if !passes_referral(
                 alloc, hosts, sets, query, tree, cut, passed, &mut queue, &mut ends,
             )? {
@@ -154,13 +172,13 @@ fn all_ends<'h, 'a>(
     hosts: &'h Hosts<'a>,
     sets: &LearntSets,
     query: &Name,
-    queue: Vec<Queued<'a>>,
+    queue: Queue<'a>,
     passed: usize,
     ends: StraightEnds<'h, 'a>,
     limits: Limits,
 ) -> Result<Option<StraightEnds<'h, 'a>>, NoMemory>
-    requires { HavePassed hosts.now sets.now query.now queue.items passed ends }
-    ensures { IfOk result (λ found. IfSome found (HoldsOfEachTold hosts.now query.now (GoesStraightIn hosts.now sets.now limits.rewrites limits.states))) }
+    requires { HavePassed hosts.now sets.now query.now queue passed ends }
+    ensures { IfOk result (λ found. IfSome found (HoldsOfEachTold hosts.now query.now (GoesStraightIn hosts.now sets.now limits.rewrites (limits.states + length hosts.now.tops)))) }
 {
     let mut queue = queue;
     let mut passed = passed;
@@ -198,15 +216,15 @@ fn passes_referral<'h, 'a>(
     tree: &'h Tree<'a>,
     cut: NodeId,
     place: usize,
-    queue: &mut Vec<Queued<'a>>,
+    queue: &mut Queue<'a>,
     ends: &mut StraightEnds<'h, 'a>,
 ) -> Result<bool, NoMemory>
-    requires within { place < length queue.old.items }
-    requires refers { IfSome (slice_get queue.old.items place) (λ one. IsReply hosts.now query.now one.server.now (reply_as.Refers tree cut)) }
-    requires passed { HavePassed hosts.now sets.now query.now queue.old.items place ends.old }
-    ensures { IfOk result (λ straight. straight ≡ true → HavePassed hosts.now sets.now query.now queue.new.items (place + 1) ends.new) }
+    requires within { place < length queue.old }
+    requires refers { IfSome (slice_get queue.old place) (λ one. IsReply hosts.now one.server.now query.now (reply_as.Refers tree cut)) }
+    requires passed { HavePassed hosts.now sets.now query.now queue.old place ends.old }
+    ensures { IfOk result (λ straight. straight ≡ true → HavePassed hosts.now sets.now query.now queue.new (place + 1) ends.new) }
 {
-    let server = queue[place].server;
+    let server = queue.as_slice()[place].server;
     queue_referrals(
         alloc,
         hosts,

@@ -9,7 +9,7 @@ use Rattle.straight_walks.proofs.answering.put_behind.Goals as goal
 pub returns-in-Records : goal.returns-in-Records
 returns-in-Records c = λ yes.
     record {
-      held = ap (λ (zone : Option Zone). is_some zone) c.in-Records.ensures.1;
+      held = ap (λ (zone : Option Zone). is_some zone) c.in-Records.ensures.0;
       answering = answering_by c.in-Records.tree.now (Some c.in-Records.owner);
       most = 1;
       no_fewer = omega arith;
@@ -21,7 +21,7 @@ pub returns-in-Some : goal.returns-in-Some
 returns-in-Some c = λ yes.
     let end = c.in-Some.end in
     record {
-      held = ap (λ (zone : Option Zone). is_some zone) c.in-Alias.ensures.1;
+      held = ap (λ (zone : Option Zone). is_some zone) c.in-Alias.ensures.0;
       answering = alias_answering c.in-Alias.tree.now c.in-Alias.owner end.tree.now end.owner;
       most = end.rewrites;
       no_fewer = omega (arith, c.in-Some.ensures.no_fewer);

@@ -7,4 +7,4 @@ use Rattle.straight_walks.proofs.referrals.queue_referrals.Given as goal
 abbrev pub invariant-loop-ns : goal.invariant-loop-ns
 invariant-loop-ns l =
     AreReferrals l.hosts l.sets l.query l.server l.tree.zone (name_of l.tree l.cut) (map (λ server. server.now) (take l.ns-index l.ns-items))
-    l.fn.queue.items l.fn.fails l.queue.items l.fails
+    l.fn.queue l.fn.fails l.queue l.fails

@@ -3,10 +3,11 @@ use Rattle.std.specs.Prelude.{IfSome}
 use Rattle.std.proofs.lemmas.Option.{slice_get_read}
 use Rattle.dns_data.specs.Name.{Labels}
 use Rattle.net_model.specs.declared.deps.Deps.{Deps}
-use Rattle.straight_walks.specs.Searching.{AreEndsFor, IsReply}
+use Rattle.zone_lookup.specs.Reply.{IsReply}
+use Rattle.straight_walks.specs.Searching.{AreEndsFor}
 use Rattle.straight_walks.specs.declared.ends.StraightEnds.{StraightEnds}
 use Rattle.straight_walks.specs.declared.queue.Queued.{Queued}
-use Rattle.straight_walks.specs.declared.server.Reply.TheVariants as reply
+use Rattle.zone_lookup.specs.declared.reply.Reply.TheVariants as reply
 use Rattle.straight_walks.proofs.NamesBelow.{PassesFor, answer_for, ending_for, one_passed_for, outside_for, same_rewrites}
 use Rattle.straight_walks.proofs.StraightSearch.{all_passed}
 use Rattle.straight_walks.proofs.referring.next_referral.Goals as goal
@@ -17,7 +18,7 @@ returns-then-not-all_end_outside c =
     let queue = c.args.queue.now in (
       c.loop-passed.invariant.later,
       c.loop-passed-test.true,
-      subst (λ (found : Option Queued). IfSome found (λ one. IsReply c.args.hosts.now c.args.query.now one.server.now (reply.Refers c.in-Refers.tree c.in-Refers.cut)))
+      subst (λ (found : Option Queued). IfSome found (λ one. IsReply c.args.hosts.now one.server.now c.args.query.now (reply.Refers c.in-Refers.tree c.in-Refers.cut)))
           (sym (slice_get_read queue (length queue) c.loop-passed.passed c.index-queue-passed.result refl c.loop-passed-test.true c.index-queue-passed.is)) c.in-Refers.ensures,
       c.loop-passed.invariant.searched,
     )
@@ -31,9 +32,9 @@ loop-passed-preserved c =
     let ends = c.loop-passed.ends in
     let one = c.index-queue-passed.result in
     let server = one.server.now in
-    let after = c.match-reply_of.ends in
+    let after = c.match-reply_near.ends in
     let passes : (deps : Deps) (name : Labels) (found : StraightEnds) → AreEndsFor config query after name found → PassesFor config deps query server queue ends after name found =
-    λ deps. elim c.match-reply_of.branch [
+    λ deps. elim c.match-reply_near.branch [
       | in-Outside w ↦
           subst (λ (e : StraightEnds). (name : Labels) (found : StraightEnds) → AreEndsFor config query e name found → PassesFor config deps query server queue ends e name found)
           (sym (w.ends-is ∙ w.put_failing.ensures))

@@ -7,4 +7,4 @@ abbrev pub invariant-loop-at : goal.invariant-loop-at
 invariant-loop-at l = AreLookedAt l.hosts l.sets l.origin l.at l.search
 
 abbrev pub decreases-loop-at : goal.decreases-loop-at
-decreases-loop-at l = 32 - l.at
+decreases-loop-at l = l.most - l.at

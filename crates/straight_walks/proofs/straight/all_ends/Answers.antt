@@ -8,17 +8,17 @@ use Rattle.straight_walks.proofs.straight.all_ends.Goals as goal
 pub passes_referral-requires-clause-within : goal.passes_referral-requires-clause-within
 passes_referral-requires-clause-within c =
     (subst (λ (all : List Queued). IsNextReferral c.args.hosts.now c.args.query.now all c.loop-ends.passed c.loop-ends.ends c.next_referral.new.ends
-    (referring.Refers c.in-Refers.place c.in-Refers.tree c.in-Refers.cut)) c.as_slice.ensures.value c.in-Refers.ensures).1
+    (referring.Refers c.in-Refers.place c.in-Refers.tree c.in-Refers.cut)) c.as_slice.ensures c.in-Refers.ensures).1
 
 pub passes_referral-requires-clause-refers : goal.passes_referral-requires-clause-refers
 passes_referral-requires-clause-refers c =
     (subst (λ (all : List Queued). IsNextReferral c.args.hosts.now c.args.query.now all c.loop-ends.passed c.loop-ends.ends c.next_referral.new.ends
-    (referring.Refers c.in-Refers.place c.in-Refers.tree c.in-Refers.cut)) c.as_slice.ensures.value c.in-Refers.ensures).2
+    (referring.Refers c.in-Refers.place c.in-Refers.tree c.in-Refers.cut)) c.as_slice.ensures c.in-Refers.ensures).2
 
 pub passes_referral-requires-clause-passed : goal.passes_referral-requires-clause-passed
 passes_referral-requires-clause-passed c =
     (subst (λ (all : List Queued). IsNextReferral c.args.hosts.now c.args.query.now all c.loop-ends.passed c.loop-ends.ends c.next_referral.new.ends
-    (referring.Refers c.in-Refers.place c.in-Refers.tree c.in-Refers.cut)) c.as_slice.ensures.value c.in-Refers.ensures).3 c.args.sets.now c.loop-ends.invariant
+    (referring.Refers c.in-Refers.place c.in-Refers.tree c.in-Refers.cut)) c.as_slice.ensures c.in-Refers.ensures).3 c.args.sets.now c.loop-ends.invariant
 
 pub loop-ends-preserved : goal.loop-ends-preserved
 loop-ends-preserved c = c.in_ok-passes_referral-in-Refers.ensures c.if-not-branch.false
@@ -28,10 +28,10 @@ returns-in-Ends c =
     let config = c.args.hosts.now in
     let deps = c.args.sets.now in
     let query = c.args.query.now in
-    let queue = c.loop-ends.queue.items in
+    let queue = c.loop-ends.queue in
     let ends_before = c.loop-ends.ends in
     let ends = c.next_referral.new.ends in
-    let all_end = subst (λ (all : List Queued). IsNextReferral config query all c.loop-ends.passed ends_before ends referring.Ends) c.as_slice.ensures.value c.in-Ends.ensures in
+    let all_end = subst (λ (all : List Queued). IsNextReferral config query all c.loop-ends.passed ends_before ends referring.Ends) c.as_slice.ensures c.in-Ends.ensures in
     let len_is : c.len-in-Ends.result ≡ length queue = omega (arith, c.len-in-Ends.ensures) in
-    given_within config deps query c.args.limits.rewrites c.args.limits.states c.len-in-Ends.result ends c.ends_within.result c.ends_within.ensures.same c.ends_within.ensures.few c.ends_within.ensures.rewrites
+    given_within config deps query c.args.limits.rewrites c.args.limits.states (c.args.limits.states + length config.tops) c.len-in-Ends.result ends c.ends_within.result c.ends_within.ensures.same c.ends_within.ensures.few c.ends_within.ensures.rewrites
     (λ few. all_end deps c.loop-ends.invariant c.args.limits.states (subst (λ (n : ℕ). n * (ends.rewrites + 1) ≤ c.args.limits.states) len_is few))

@@ -4,4 +4,4 @@ pub ends_from-requires : goal.ends_from-requires
 ends_from-requires c = c.in-Some.ensures c.args.hosts.now c.args.sets.now c.requires
 
 pub ends_from-requires-in-None : goal.ends_from-requires-in-None
-ends_from-requires-in-None c = λ name between. c.in_ok-searched-in-None.ensures c.args.sets.now name
+ends_from-requires-in-None c = c.in_ok-searched-in-None.ensures.is c.args.sets.now

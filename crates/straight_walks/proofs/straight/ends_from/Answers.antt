@@ -1,26 +1,27 @@
-use Rattle.std.proofs.Common.{◌<◌, List, IfSome, length, sym, subst}
+use Rattle.std.proofs.Common.{◌<◌, ◌+◌, List, IfSome, length, sym, ◌∙◌, subst}
 use Rattle.std.specs.List.{slice_get}
-use Rattle.straight_walks.specs.Searching.{HavePassed, IsReply, unanswered}
+use Rattle.zone_lookup.specs.Reply.{IsReply}
+use Rattle.straight_walks.specs.Searching.{HavePassed, unanswered}
 use Rattle.straight_walks.specs.declared.queue.Queued.{Queued}
-use Rattle.straight_walks.specs.declared.server.Reply.TheVariants as reply
+use Rattle.zone_lookup.specs.declared.reply.Reply.TheVariants as reply
 use Rattle.straight_walks.proofs.NamesBelow.{begun}
 use Rattle.straight_walks.proofs.StraightSearch.{given_within}
 use Rattle.straight_walks.proofs.straight.ends_from.Goals as goal
 
 pub passes_referral-requires-clause-within : goal.passes_referral-requires-clause-within
 passes_referral-requires-clause-within c =
-    subst (λ (all : List Queued). c.in-Refers.passed < length all) (sym c.in_ok-queue-in-Refers.ensures.items) c.in-Refers.ensures.1
+    subst (λ (all : List Queued). c.in-Refers.passed < length all) (sym (c.of-queue.ensures ∙ c.in_ok-from_slice-in-Refers.ensures.items)) c.in-Refers.ensures.1
 
 pub passes_referral-requires-clause-refers : goal.passes_referral-requires-clause-refers
 passes_referral-requires-clause-refers c =
     subst (λ (all : List Queued). IfSome (slice_get all c.in-Refers.passed)
-    (λ one. IsReply c.args.hosts.now c.args.query.now one.server.now (reply.Refers c.in-Refers.tree c.in-Refers.cut))) (sym c.in_ok-queue-in-Refers.ensures.items)
+    (λ one. IsReply c.args.hosts.now one.server.now c.args.query.now (reply.Refers c.in-Refers.tree c.in-Refers.cut))) (sym (c.of-queue.ensures ∙ c.in_ok-from_slice-in-Refers.ensures.items))
     c.in-Refers.ensures.2
 
 pub passes_referral-requires-clause-passed : goal.passes_referral-requires-clause-passed
 passes_referral-requires-clause-passed c =
     subst (λ (all : List Queued). HavePassed c.args.hosts.now c.args.sets.now c.args.query.now all c.in-Refers.passed c.next_referral.new.ends)
-    (sym c.in_ok-queue-in-Refers.ensures.items)
+    (sym (c.of-queue.ensures ∙ c.in_ok-from_slice-in-Refers.ensures.items))
     (c.in-Refers.ensures.3 c.args.sets.now
     (subst (λ (all : List Queued). HavePassed c.args.hosts.now c.args.sets.now c.args.query.now all c.args.searched.now.passed (unanswered c.args.searched.now.fails))
     (sym c.as_slice-queue.ensures.value) (begun c.args.hosts.now c.args.sets.now c.args.query.now c.args.searched.now c.requires)))
@@ -33,7 +34,7 @@ returns-in-Ends c =
     let config = c.args.hosts.now in
     let deps = c.args.sets.now in
     let query = c.args.query.now in
-    given_within config deps query c.args.limits.rewrites c.args.limits.states (length c.as_slice-queue.result.now) c.next_referral.new.ends c.ends_within.result c.ends_within.ensures.same c.ends_within.ensures.few c.ends_within.ensures.rewrites
+    given_within config deps query c.args.limits.rewrites c.args.limits.states (c.args.limits.states + length config.tops) (length c.as_slice-queue.result.now) c.next_referral.new.ends c.ends_within.result c.ends_within.ensures.same c.ends_within.ensures.few c.ends_within.ensures.rewrites
     (λ few. c.in-Ends.ensures deps
     (subst (λ (all : List Queued). HavePassed config deps query all c.args.searched.now.passed (unanswered c.args.searched.now.fails)) (sym c.as_slice-queue.ensures.value)
     (begun config deps query c.args.searched.now c.requires))

@@ -1,39 +1,38 @@
-use Rattle.std.proofs.Common.{arith}
-use Rattle.std.proofs.Math.Nat.{div-mul-le_self}
+use Rattle.std.proofs.Common.{◌+◌, length}
 use Rattle.straight_walks.proofs.GivenEnds.{bounded_given, few_given, few_given_below, few_given_unnamed, nothing_given, nothing_given_below, nothing_given_unnamed, outcomes_given}
 use Rattle.straight_walks.proofs.straight.straight_ends.Goals as goal
 
 pub returns-clause-few : goal.returns-clause-few
 returns-clause-few c =
-    few_given c.args.hosts.now c.args.sets.now c.args.rewrites c.min-most.result c.args.query.now c.ends_by_region.result c.args.states
-    (omega (arith, c.min-most.ensures, div-mul-le_self c.args.states 12)) c.ends_by_region.ensures
+    few_given c.args.hosts.now c.args.sets.now c.args.rewrites (c.in-Some.states + length c.args.hosts.now.tops) c.args.query.now c.ends_by_region.result c.args.states
+    c.in-Some.ensures c.ends_by_region.ensures
 
 pub returns-clause-shows_nothing : goal.returns-clause-shows_nothing
 returns-clause-shows_nothing c =
-    nothing_given c.args.hosts.now c.args.sets.now c.args.rewrites c.min-most.result c.args.query.now c.ends_by_region.result c.ends_by_region.ensures
+    nothing_given c.args.hosts.now c.args.sets.now c.args.rewrites (c.in-Some.states + length c.args.hosts.now.tops) c.args.query.now c.ends_by_region.result c.ends_by_region.ensures
 
 pub returns-clause-bounded : goal.returns-clause-bounded
 returns-clause-bounded c =
-    bounded_given c.args.hosts.now c.args.sets.now c.args.rewrites c.min-most.result c.args.query.now c.ends_by_region.result c.ends_by_region.ensures
+    bounded_given c.args.hosts.now c.args.sets.now c.args.rewrites (c.in-Some.states + length c.args.hosts.now.tops) c.args.query.now c.ends_by_region.result c.ends_by_region.ensures
 
 pub returns-clause-outcomes : goal.returns-clause-outcomes
 returns-clause-outcomes c =
-    outcomes_given c.args.hosts.now c.args.sets.now c.args.rewrites c.min-most.result c.args.query.now c.ends_by_region.result c.ends_by_region.ensures
+    outcomes_given c.args.hosts.now c.args.sets.now c.args.rewrites (c.in-Some.states + length c.args.hosts.now.tops) c.args.query.now c.ends_by_region.result c.ends_by_region.ensures
 
 pub returns-clause-few_below : goal.returns-clause-few_below
 returns-clause-few_below c =
-    few_given_below c.args.hosts.now c.args.sets.now c.args.rewrites c.min-most.result c.args.query.now c.ends_by_region.result c.args.states
-    (omega (arith, c.min-most.ensures, div-mul-le_self c.args.states 12)) c.ends_by_region.ensures
+    few_given_below c.args.hosts.now c.args.sets.now c.args.rewrites (c.in-Some.states + length c.args.hosts.now.tops) c.args.query.now c.ends_by_region.result c.args.states
+    c.in-Some.ensures c.ends_by_region.ensures
 
 pub returns-clause-nothing_below : goal.returns-clause-nothing_below
 returns-clause-nothing_below c =
-    nothing_given_below c.args.hosts.now c.args.sets.now c.args.rewrites c.min-most.result c.args.query.now c.ends_by_region.result c.ends_by_region.ensures
+    nothing_given_below c.args.hosts.now c.args.sets.now c.args.rewrites (c.in-Some.states + length c.args.hosts.now.tops) c.args.query.now c.ends_by_region.result c.ends_by_region.ensures
 
 pub returns-clause-few_unnamed : goal.returns-clause-few_unnamed
 returns-clause-few_unnamed c =
-    few_given_unnamed c.args.hosts.now c.args.sets.now c.args.rewrites c.min-most.result c.args.query.now c.ends_by_region.result c.args.states
-    (omega (arith, c.min-most.ensures, div-mul-le_self c.args.states 12)) c.ends_by_region.ensures
+    few_given_unnamed c.args.hosts.now c.args.sets.now c.args.rewrites (c.in-Some.states + length c.args.hosts.now.tops) c.args.query.now c.ends_by_region.result c.args.states
+    c.in-Some.ensures c.ends_by_region.ensures
 
 pub returns-clause-nothing_unnamed : goal.returns-clause-nothing_unnamed
 returns-clause-nothing_unnamed c =
-    nothing_given_unnamed c.args.hosts.now c.args.sets.now c.args.rewrites c.min-most.result c.args.query.now c.ends_by_region.result c.ends_by_region.ensures
+    nothing_given_unnamed c.args.hosts.now c.args.sets.now c.args.rewrites (c.in-Some.states + length c.args.hosts.now.tops) c.args.query.now c.ends_by_region.result c.ends_by_region.ensures

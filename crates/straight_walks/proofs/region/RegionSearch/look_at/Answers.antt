@@ -7,10 +7,10 @@ pub returns-in_ok-push-in-Outside : goal.returns-in_ok-push-in-Outside
 returns-in_ok-push-in-Outside c = λ yes.
     let before = c.args.self.now in
     inl (record {
-      extends = ([], sym (append-nil before.queue.items));
+      extends = ([], sym (append-nil before.queue));
       passed = c.in_ok-push-in-Outside.ensures.items;
       answering = refl;
-      passes = outside_past c.args.hosts.now c.args.sets.now c.args.origin.now c.args.one.server.now before.queue.items before.fails c.in-Outside.ensures;
+      passes = outside_past c.args.hosts.now c.args.sets.now c.args.origin.now c.args.one.server.now before.queue before.fails c.in-Outside.ensures;
     })
 
 pub returns-in_ok-push-in-Records : goal.returns-in_ok-push-in-Records
@@ -30,6 +30,6 @@ returns-in_ok-push-in-Refers c = λ yes.
       extends = on.extends;
       passed = c.in_ok-push-in-Refers.ensures.items;
       answering = refl;
-      passes = referral_past c.args.hosts.now c.args.sets.now c.args.origin.now c.args.one.server.now before.queue.items before.fails
-          c.queue_referrals.new.queue.items c.queue_referrals.new.fails c.in-Refers.tree c.in-Refers.cut c.in-Refers.ensures on;
+      passes = referral_past c.args.hosts.now c.args.sets.now c.args.origin.now c.args.one.server.now before.queue before.fails
+          c.queue_referrals.new.queue c.queue_referrals.new.fails c.in-Refers.tree c.in-Refers.cut c.in-Refers.ensures on;
     })

@@ -6,5 +6,5 @@ use Rattle.straight_walks.proofs.regions.Regions.search_for.Goals as goal
 
 pub returns-in-Some : goal.returns-in-Some
 returns-in-Some c = λ config deps are.
-    search_for config deps c.as_slice.result.now (subst (λ (regions : List Region). AreRegions config deps regions) (sym c.as_slice.ensures.value) are) c.args.query.now
+    search_for config deps c.as_slice.result.now (subst (λ (regions : List Region). AreRegions config deps regions) (sym c.as_slice.ensures.value) are.0) c.args.query.now
     c.in-Some.region.now c.in-Some.ensures.some

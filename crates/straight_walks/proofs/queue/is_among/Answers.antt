@@ -5,11 +5,11 @@ use Rattle.dns_data.specs.Name.{Labels}
 use Rattle.dns_data.proofs.Membership.{map_has}
 use Rattle.dns_data.proofs.Names.{name_eq_decides}
 use Rattle.straight_walks.specs.Searching.{state_at, queued_state}
-use Rattle.straight_walks.proofs.queue.is_queued.Goals as goal
+use Rattle.straight_walks.proofs.queue.is_among.Goals as goal
 
 pub returns-then-eq : goal.returns-then-eq
 returns-then-eq c = λ yes config query.
-    let queue = c.args.queue.now in
+    let queue = c.args.states.now in
     let one = c.one-item.result in
     subst (Contains (map (queued_state config query) queue))
     (ap (λ (name : Labels). state_at config query name one.cut) ((name_eq_decides one.server.now c.args.server.now).0 (sym c.eq.ensures ∙ c.if-eq.true))

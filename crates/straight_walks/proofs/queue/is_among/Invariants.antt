@@ -1,4 +1,4 @@
-use Rattle.straight_walks.proofs.queue.is_queued.Given as goal
+use Rattle.straight_walks.proofs.queue.is_among.Given as goal
 
 -- one that is it ends the search
 abbrev pub invariant-loop-one : goal.invariant-loop-one

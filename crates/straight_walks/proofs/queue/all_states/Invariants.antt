@@ -2,7 +2,7 @@ use Rattle.std.proofs.Common.{◌≡◌, map, take}
 use Rattle.dns_data.specs.Name.{Labels}
 use Rattle.net_model.specs.Step.{arrived}
 use Rattle.straight_walks.specs.Searching.{queued_state}
-use Rattle.straight_walks.proofs.queue.start_states.Given as goal
+use Rattle.straight_walks.proofs.queue.all_states.Given as goal
 use Rattle.std.proofs.Common.{true, None}
 
 -- the states at those so far
