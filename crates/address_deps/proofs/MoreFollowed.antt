@@ -1,5 +1,5 @@
 -- With more servers followed, a branch stays the same unless it ended for want of an address. So more is learnt.
-use Rattle.std.proofs.Common.{◌≡◌, ◌≢◌, ℕ, Bool, true, false, not, ◌||◌, ◌&&◌, List, [], ◌∷◌, map, length, Option, Some, None, refl, sym, ap, ◌∙◌, inl, inr, ◌==◌}
+use Rattle.std.proofs.Common.{◌≡◌, ℕ, Bool, true, false, not, ◌||◌, ◌&&◌, List, [], ◌∷◌, map, length, Option, Some, None, refl, sym, ap, ◌∙◌, inl, inr, ◌==◌}
 use Rattle.std.specs.Prelude.{◌⊎◌, slice_get, option_and_then, option_map, nat_lt, if◌then◌else◌}
 use Rattle.std.specs.List.{list_any, AllZip}
 use Rattle.std.proofs.lemmas.Bool.{or_cases}
@@ -114,11 +114,6 @@ module _ (config : Config) (rewrites : ℕ) (few more : List Labels)
         by true false is false stays _ = inl refl
 
   -- ---- all branches of a state
-
-  itself : (branch : Branch) → ((cut : Cut) (to : State) → branch ≢ Go (Refer cut) to) → Narrowed config few branch branch
-  itself (Go (Refer cut) to) none = absurd (none cut to refl)
-  itself (Go (Rewrite place by_dname name) to) none = inl (refl, refl)
-  itself (End hop leaf) none = inl refl
 
   all_referred : (state : State) (zone cut : Labels) (names : List Labels)
       → AllZip (Narrowed config few)

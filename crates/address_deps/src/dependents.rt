@@ -30,7 +30,7 @@ pub(crate) struct Dependents {
 impl Dependents {
     /// Who waits for each name server's address, by what tells whether the servers' own are learnt. Each branch of a graph
     /// is passed over once.
-    pub fn of(
+    pub(crate) fn of(
         alloc: Global,
         hosts: &Hosts<'_>,
         told: &[AddressTold],
@@ -48,7 +48,7 @@ impl Dependents {
     }
 
     /// The places of those that wait for the name server's address. It takes no memory.
-    pub fn on(&self, name: &Name) -> &[usize]
+    pub(crate) fn on(&self, name: &Name) -> &[usize]
         ensures { result.now ≡ places_of self.now.places name.now }
     {
         match self.places.get(name) {

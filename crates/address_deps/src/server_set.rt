@@ -25,7 +25,7 @@ impl Model for ServerSet {
 
 impl ServerSet {
     /// The empty set.
-    pub fn new(alloc: Global) -> ServerSet
+    pub(crate) fn new(alloc: Global) -> ServerSet
         ensures { result ≡ [] }
     {
         ServerSet {
@@ -34,14 +34,14 @@ impl ServerSet {
     }
 
     /// Whether the server is in the set.
-    pub fn has(&self, name: &Name) -> bool
+    pub(crate) fn has(&self, name: &Name) -> bool
         ensures { result ≡ list_any (name_eq name.now) self.now }
     {
         self.names.contains(name)
     }
 
     /// Puts a server into the set.
-    pub fn put(&mut self, alloc: Global, name: &Name) -> Result<(), NoMemory>
+    pub(crate) fn put(&mut self, alloc: Global, name: &Name) -> Result<(), NoMemory>
         ensures { OnOk result ((other : Labels) → list_any (name_eq other) self.new ≡ (name_eq name.now other || list_any (name_eq other) self.old)) }
     {
         self.names.insert(name.copy(alloc)?)?;
@@ -49,7 +49,7 @@ impl ServerSet {
     }
 
     /// Takes a server out of the set.
-    pub fn take(&mut self, name: &Name)
+    pub(crate) fn take(&mut self, name: &Name)
         ensures { (other : Labels) → list_any (name_eq other) self.new ≡ (not (name_eq name.now other) && list_any (name_eq other) self.old) }
     {
         self.names.remove(name);

@@ -17,9 +17,8 @@ use Rattle.graph_form.specs.declared.node.Arm.{Arm}
 use Rattle.interp_graph.specs.Drafts.{Comes, AreDrafts, size_of, pair_count, Draft}
 use Rattle.interp_graph.specs.Growing.{TakesTypes}
 
--- ---- of two sets without a common type
-
-counted : {X : Type 0} (f g h : X → Bool) (xs : List X) → ((x : X) → h x ≡ (f x || g x)) → ((x : X) → g x ≡ true → f x ≡ false)
+-- what passes one of two tests is as many as what passes each of them, if nothing passes both
+pub counted : {X : Type 0} (f g h : X → Bool) (xs : List X) → ((x : X) → h x ≡ (f x || g x)) → ((x : X) → g x ≡ true → f x ≡ false)
     → length (filter h xs) ≡ length (filter f xs) + length (filter g xs)
 counted f g h [] both apart = refl
 counted f g h (x ∷ xs) both apart = by (f x) (g x) (h x) refl refl (both x) (counted f g h xs both apart) where

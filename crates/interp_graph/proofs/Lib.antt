@@ -2,7 +2,7 @@ pub mod ItemsByNumber
 pub mod Drafts
 pub mod Finished
 pub mod Counts
-pub mod ToldForks
+pub mod ForksOfTypes
 pub mod Changes
 pub mod Arming
 pub mod ForkSteps
@@ -16,7 +16,8 @@ pub mod Passing
 pub mod Standing
 pub mod Built
 pub mod NextRestricted
-pub mod InGraph
-pub mod Limiting
 pub mod OpenNames
-pub mod RestrictedGraph
+pub mod Limiting
+pub mod Gaining
+pub mod Reaching
+pub mod Restricting

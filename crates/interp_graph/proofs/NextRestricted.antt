@@ -1,6 +1,7 @@
 -- What a state leads to where only some servers are followed is what it leads to where all are, each branch restricted.
 use Rattle.std.proofs.Common.{◌≡◌, ℕ, ◌+◌, Bool, true, false, not, length, true≢false, List, [], ◌∷◌, map, Option, Some, None, refl, sym, ap, ◌∙◌}
 use Rattle.std.specs.Prelude.{◌&&◌, if◌then◌else◌, nat_lt}
+use Rattle.std.specs.Option.{option_map_or}
 use Rattle.dns_data.specs.Name.{Labels, is_prefix}
 use Rattle.dns_data.specs.declared.rr_type.RrType.{RrType}
 use Rattle.net_model.specs.Lookup.{found}
@@ -12,11 +13,13 @@ use Rattle.net_model.specs.declared.found.Found.{Found}
 use Rattle.net_model.specs.declared.found.Found.TheVariants as found_as
 use Rattle.net_model.specs.declared.place.Cut.{Cut}
 use Rattle.net_model.specs.declared.place.Place.{Place}
+use Rattle.net_model.specs.declared.walk.Hop.{Hop}
 use Rattle.net_model.specs.declared.walk.Hop.TheVariants.{Refer, Rewrite}
+use Rattle.net_model.specs.declared.walk.Leaf.{Leaf}
 use Rattle.net_model.specs.declared.walk.Leaf.TheVariants.{Lame, Limit, NoAddress, Overlong, Unhosted}
 use Rattle.net_model.specs.declared.walk.State.{State}
 use Rattle.net_model.proofs.Followed.{names_follow_all}
-use Rattle.interp_graph.specs.Restricted.{restricted}
+use Rattle.interp_graph.specs.Restricted.{shut, restricted}
 
 module _ (config : Config) (rewrites : ℕ) (followed : List Labels) (state : State) where
   abbrev all : Setting
@@ -25,25 +28,33 @@ module _ (config : Config) (rewrites : ℕ) (followed : List Labels) (state : St
   abbrev some : Setting
   some = following config rewrites followed
 
-  abbrev change : Branch → Branch
-  change = restricted config followed
+  abbrev ends : Hop → Option Leaf
+  ends = shut config followed
 
-  -- a referral that may be followed or not
+  abbrev change : Branch → Branch
+  change = restricted ends
+
+  -- a branch by a referral that may be followed or not
+  either_way : (cut : Cut) (branch : Branch) (may : Bool) → may_follow config cut followed ≡ may
+      → (if not may then End (Some (Refer cut)) (NoAddress cut.ns) else branch) ≡ option_map_or (λ leaf. End (Some (Refer cut)) leaf) (ends (Refer cut)) branch
+  either_way cut branch may is = by may ∙ sym (ap (λ m. option_map_or (λ leaf. End (Some (Refer cut)) leaf) (if m then None else Some (NoAddress cut.ns)) branch) is) where
+    by : (m : Bool) → (if not m then End (Some (Refer cut)) (NoAddress cut.ns) else branch)
+        ≡ option_map_or (λ leaf. End (Some (Refer cut)) leaf) (if m then None else Some (NoAddress cut.ns)) branch
+    by true = refl
+    by false = refl
+
   delegation : (cut : Cut) (zone : Option Zone) (may : Bool) → may_follow config cut followed ≡ may
       → (if not may then End (Some (Refer cut)) (NoAddress cut.ns) else delegated state cut zone) ≡ change (delegated state cut zone)
-  delegation cut None true is = sym (ap (λ m. if m then End (Some (Refer cut)) (Lame cut.ns) else End (Some (Refer cut)) (NoAddress cut.ns)) is)
-  delegation cut None false is = sym (ap (λ m. if m then End (Some (Refer cut)) (Lame cut.ns) else End (Some (Refer cut)) (NoAddress cut.ns)) is)
-  delegation cut (Some zone) may is = by may is (is_prefix cut.cut zone.origin) where
+  delegation cut None may is = either_way cut (End (Some (Refer cut)) (Lame cut.ns)) may is
+  delegation cut (Some zone) may is = by (is_prefix cut.cut zone.origin) where
     to : State
     to = record state { server = cut.ns; cut = length cut.cut; zone = Some zone.origin }
 
-    by : (may : Bool) → may_follow config cut followed ≡ may → (inside : Bool)
+    by : (inside : Bool)
         → (if not may then End (Some (Refer cut)) (NoAddress cut.ns) else (if inside then Go (Refer cut) to else End (Some (Refer cut)) (Lame cut.ns)))
         ≡ change (if inside then Go (Refer cut) to else End (Some (Refer cut)) (Lame cut.ns))
-    by true is true = sym (ap (λ m. if m then Go (Refer cut) to else End (Some (Refer cut)) (NoAddress cut.ns)) is)
-    by true is false = sym (ap (λ m. if m then End (Some (Refer cut)) (Lame cut.ns) else End (Some (Refer cut)) (NoAddress cut.ns)) is)
-    by false is true = sym (ap (λ m. if m then Go (Refer cut) to else End (Some (Refer cut)) (NoAddress cut.ns)) is)
-    by false is false = sym (ap (λ m. if m then End (Some (Refer cut)) (Lame cut.ns) else End (Some (Refer cut)) (NoAddress cut.ns)) is)
+    by true = either_way cut (Go (Refer cut) to) may is
+    by false = either_way cut (End (Some (Refer cut)) (Lame cut.ns)) may is
 
   referral : (cut : Cut) → referred some state cut ≡ change (referred all state cut)
   referral cut = by (is_configured config cut.ns) (may_follow config cut (server_names config)) (names_follow_all config rewrites cut) where

@@ -1,5 +1,5 @@
 -- The nodes at which types wait, one after another.
-use Rattle.std.proofs.Common.{◌≡◌, ℕ, ◌+◌, ◌-◌, ◌<◌, ◌≤◌, List, [], ◌∷◌, ◌++◌, length, sym, ap, ◌∙◌, subst, inl, inr, arith, length-append}
+use Rattle.std.proofs.Common.{◌≡◌, ℕ, List, [], ◌∷◌, ◌++◌, sym, ◌∙◌, subst, inl, inr}
 use Rattle.std.specs.Prelude.{◌⊎◌, Contains}
 use Rattle.std.proofs.lemmas.List.Elements.{Contains-append_cases}
 use Rattle.dns_data.specs.declared.rr_type.RrType.{RrType}
@@ -12,29 +12,29 @@ use Rattle.interp_graph.specs.declared.growing.GrowingGraph.{GrowingGraph}
 use Rattle.interp_graph.proofs.Drafts.{grows_twice}
 
 -- what holds before each turn in which a node is taken: drafts grew, each at which a type waits is to be followed, and
--- in walks of the kind they stay right
-pub record TurnsSoFar (IsSo : Setting → List State → Type 0) (before now : GrowingGraph) : Type 0 where
+-- they stay right
+pub record TurnsSoFar (setting : Setting) (before now : GrowingGraph) : Type 0 where
   pub sound : IsSoundSoFar now
   pub limit : now.limit ≡ before.limit
   pub listed : AreToFollow now
   pub grows : Grows (drafts_in before) (drafts_in now)
-  pub drafts : (setting : Setting) (begin : List State) → IsSo setting begin → AreDrafts setting begin (drafts_in before) → AreDrafts setting begin (drafts_in now)
+  pub drafts : (begin : List State) → AreDrafts setting begin (drafts_in before) → AreDrafts setting begin (drafts_in now)
 
-module _ (IsSo : Setting → List State → Type 0) where
+module _ (setting : Setting) where
   -- a node is taken
-  module _ (before now taken : GrowingGraph) (at : ℕ) (so : TurnsSoFar IsSo before now) (stack : now.stack.items ≡ taken.stack.items ++ at ∷ [])
+  module _ (before now taken : GrowingGraph) (at : ℕ) (so : TurnsSoFar setting before now) (stack : now.stack.items ≡ taken.stack.items ++ at ∷ [])
       (drafts_same : (drafts_in taken) ≡ (drafts_in now)) (limit_same : taken.limit ≡ now.limit) (pairs_same : taken.pairs ≡ now.pairs) where
     -- where the node that is taken makes too many pairs, more come from where the query begins than are allowed
-    pub turns_passed : ((setting : Setting) (begin : List State) → IsSo setting begin → AreDrafts setting begin (drafts_in taken) → HasMoreComing setting begin taken.limit)
-        → (setting : Setting) (begin : List State) → IsSo setting begin → AreDrafts setting begin (drafts_in before) → HasMoreComing setting begin before.limit
-    turns_passed passed setting begin is are =
+    pub turns_passed : ((begin : List State) → AreDrafts setting begin (drafts_in taken) → HasMoreComing setting begin taken.limit)
+        → (begin : List State) → AreDrafts setting begin (drafts_in before) → HasMoreComing setting begin before.limit
+    turns_passed passed begin are =
         subst (HasMoreComing setting begin) (limit_same ∙ so.limit)
-        (passed setting begin is (subst (AreDrafts setting begin) (sym drafts_same) (so.drafts setting begin is are)))
+        (passed begin (subst (AreDrafts setting begin) (sym drafts_same) (so.drafts begin are)))
 
     module _ (after : GrowingGraph) (sound : IsSoundSoFar after) (advances : Advances taken after) (rid : IsRid after at) where
       -- when what waits at the node that is taken no longer does, or is to be followed, one turn more is done
-      pub turns_more : ((setting : Setting) (begin : List State) → IsSo setting begin → AreDrafts setting begin (drafts_in taken) → AreDrafts setting begin (drafts_in after))
-          → TurnsSoFar IsSo before after
+      pub turns_more : ((begin : List State) → AreDrafts setting begin (drafts_in taken) → AreDrafts setting begin (drafts_in after))
+          → TurnsSoFar setting before after
       turns_more drafts =
           record {
             sound = sound;
@@ -46,7 +46,7 @@ module _ (IsSo : Setting → List State → Type 0) where
             ];
             grows = grows_twice (drafts_in before) (drafts_in taken) (drafts_in after)
                 (subst (Grows (drafts_in before)) (sym drafts_same) so.grows) advances.grows;
-            drafts = λ setting begin is are. drafts setting begin is (subst (AreDrafts setting begin) (sym drafts_same) (so.drafts setting begin is are));
+            drafts = λ begin are. drafts begin (subst (AreDrafts setting begin) (sym drafts_same) (so.drafts begin are));
           }
         where
           by : (k : ℕ) (rtype : RrType) → Waits (drafts_in after) k rtype → Contains taken.stack.items k ⊎ Contains (at ∷ []) k → Contains after.stack.items k
@@ -56,17 +56,7 @@ module _ (IsSo : Setting → List State → Type 0) where
             | inr none ↦ absurd (none_in_nil k none)
           ]
 
-      -- each turn leaves less to do: room for pairs and nodes to be followed
-      pub less_left : after.limit + length after.stack.items - after.pairs < now.limit + length now.stack.items - now.pairs
-      less_left =
-          of after.limit now.limit after.pairs now.pairs taken.pairs (length after.stack.items) (length taken.stack.items) (length now.stack.items)
-          (advances.limit ∙ limit_same) pairs_same advances.paid
-          (ap (λ (ks : List ℕ). length ks) stack ∙ length-append taken.stack.items (at ∷ [])) sound.within.few so.sound.within.few
-        where
-          of : (a b p q r s t u : ℕ) → a ≡ b → r ≡ q → s + r ≤ t + p → u ≡ t + 1 → p ≤ a → q ≤ b → a + s - p < b + u - q
-          of a b p q r s t u limits pairs paid one few was = omega (arith, limits, pairs, paid, one, few, was)
-
   -- if no draft is left to be followed, no type waits at any
-  pub none_wait : (before now : GrowingGraph) → TurnsSoFar IsSo before now → now.stack.items ≡ [] → (at : ℕ) (rtype : RrType) → Waits (drafts_in now) at rtype → ⊥
+  pub none_wait : (before now : GrowingGraph) → TurnsSoFar setting before now → now.stack.items ≡ [] → (at : ℕ) (rtype : RrType) → Waits (drafts_in now) at rtype → ⊥
   none_wait before now so none at rtype waits =
       none_in_nil at (subst (λ (ks : List ℕ). Contains ks at) none (so.listed at rtype waits))

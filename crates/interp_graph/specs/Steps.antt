@@ -2,14 +2,10 @@
 use Rattle.std.specs.Prelude.{◌≡◌, Bool, true, false, List, map, Contains, AllPairs}
 use Rattle.dns_data.specs.TypeSet.{has_bit}
 use Rattle.dns_data.specs.declared.rr_type.RrType.{RrType}
-use Rattle.net_model.specs.Step.{Setting, Branch, next}
+use Rattle.net_model.specs.Step.{Setting, next}
 use Rattle.net_model.specs.declared.walk.State.{State}
 use Rattle.zone_lookup.specs.Steps.{branch_of}
 use Rattle.interp_graph.specs.declared.step.Fork.{Fork}
-
--- the types of a fork, and its steps
-abbrev pub fork_of : Fork → List Bool × List Branch
-fork_of fork = (fork.types, map branch_of fork.steps)
 
 -- two sets have no type in common
 abbrev pub IsApart : List Bool → List Bool → Type 0

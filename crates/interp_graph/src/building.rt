@@ -83,7 +83,7 @@ fn whole_name(alloc: Global, name: &SymName) -> Result<Name, NoMemory>
 }
 
 /// The numbers of the nodes of the states in which a query begins. All types come to them.
-pub(crate) fn begin(
+fn begin(
     alloc: Global,
     growing: &mut GrowingGraph,
     states: List<Boxed<State>>,
@@ -126,11 +126,7 @@ fn follow(
 }
 
 /// The graph whose nodes are made.
-pub(crate) fn graph_of(
-    alloc: Global,
-    growing: GrowingGraph,
-    starts: List<u32>,
-) -> Result<Graph, NoMemory>
+fn graph_of(alloc: Global, growing: GrowingGraph, starts: List<u32>) -> Result<Graph, NoMemory>
     requires sound { IsSoundSoFar growing }
     requires drafts { (setting : Setting) × (begin : List State) × AreDrafts setting begin (drafts_in growing) }
     ensures { IfOk result (λ graph. graph ≡ record { nodes = map node_of (drafts_in growing); starts = starts }) }

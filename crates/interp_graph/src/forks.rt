@@ -1,17 +1,15 @@
-//! What a state leads to while every configured server is followed, by what its server finds.
+//! What a state leads to while every configured server is followed, by what its server replies.
 
-ghost use Rattle.std.specs.Prelude.{◌≡◌, ◌∷◌, [], map, None, IfOk};
-ghost use Rattle.net_model.specs.Step.{End, after_lookup};
-ghost use Rattle.net_model.specs.declared.walk.Leaf.TheVariants.{Outside};
-ghost use Rattle.interp_graph.specs.Steps.{AreForks, fork_of};
+ghost use Rattle.std.specs.Prelude.{◌≡◌, IfOk};
+ghost use Rattle.zone_lookup.specs.Alike.{GoAlike, HasSome};
+ghost use Rattle.zone_lookup.specs.Reply.{IsReply};
+ghost use Rattle.interp_graph.specs.Steps.{AreForks, IsFork};
 
 use crate::step::Fork;
-use dns_data::{List, Name, NoMemory, TypeSet};
-use name_rules::SymName;
+use dns_data::{List, NoMemory, TypeSet};
 use net_model::State;
 use std::alloc::Global;
-use sym_query::{TypedFound, find_sym};
-use zone_lookup::{Walker, after_lookup, outside};
+use zone_lookup::{Reply, Walker, next_steps, reply_in, split_by};
 
 /// What a state leads to for each of these types.
 pub(crate) fn forks(
@@ -22,43 +20,56 @@ pub(crate) fn forks(
 ) -> Result<List<Fork>, NoMemory>
     ensures { IfOk result (AreForks walker.now state.now types) }
 {
-    let Some(tree) = walker.hosts().nearest_of(&state.server, &state.name) else {
-        return one_fork(alloc, types);
-    };
-    let name = SymName {
-        known: state.name.copy(alloc)?,
-        tail: None,
-    };
-    let answers = find_sym(alloc, tree, &name, types)?;
-    all_forks(alloc, walker, state, &tree.zone().origin, answers)
+    match walker.hosts().nearest_of(&state.server, &state.name) {
+        Some(tree) => {
+            let reply = reply_in(tree, &state.name);
+            forks_by(alloc, walker, state, &reply, types)
+        }
+        None => forks_by(alloc, walker, state, &Reply::Outside, types),
+    }
 }
 
-/// Where a server holds no zone for the name, all types end there.
-fn one_fork(alloc: Global, types: TypeSet) -> Result<List<Fork>, NoMemory>
-    ensures { IfOk result (λ forks. map fork_of forks ≡ (types, End None Outside ∷ []) ∷ []) }
-{
-    let steps = outside(alloc)?;
-    let mut forks = Vec::with_capacity(alloc, 1)?;
-    forks.push_reserved(Fork { types, steps });
-    Ok(List::from_vec(forks))
-}
-
-/// What a state leads to for the types of each answer from the zone with this origin.
-fn all_forks(
+/// What a state leads to by what its server replies to its name: one fork for the types that go the same way, and one for
+/// each other type.
+fn forks_by(
     alloc: Global,
     walker: &Walker<'_, '_>,
     state: &State,
-    origin: &Name,
-    answers: List<TypedFound>,
+    reply: &Reply<'_, '_>,
+    types: TypeSet,
 ) -> Result<List<Fork>, NoMemory>
-    ensures { IfOk result (λ forks. map fork_of forks ≡ map (λ answer. (answer.types, after_lookup walker.now state.now origin.now answer.found)) answers) }
+    requires { IsReply walker.now.config state.now.server state.now.name reply.now }
+    ensures { IfOk result (AreForks walker.now state.now types) }
 {
-    let mut forks = Vec::with_capacity(alloc, answers.len())?;
-    for answer in answers {
-        forks.push(Fork {
-            types: answer.types,
-            steps: after_lookup(alloc, walker, state, origin, answer.found)?,
-        })?;
+    let sets = split_by(alloc, reply, types)?;
+    let sets = sets.items();
+    let mut forks = List::new(alloc);
+    for at in 0..sets.len() {
+        forks.push(fork(alloc, walker, state, reply, sets[at])?)?;
     }
-    Ok(List::from_vec(forks))
+    Ok(forks)
+}
+
+/// The fork of types of a set, of which there are some, and which go the same way.
+fn fork(
+    alloc: Global,
+    walker: &Walker<'_, '_>,
+    state: &State,
+    reply: &Reply<'_, '_>,
+    types: TypeSet,
+) -> Result<Fork, NoMemory>
+    requires reply { IsReply walker.now.config state.now.server state.now.name reply.now }
+    requires some { HasSome types }
+    requires alike { GoAlike reply.now types }
+    ensures types { IfOk result (λ fork. fork.types ≡ types) }
+    ensures fork { IfOk result (IsFork walker.now state.now) }
+{
+    match types.first() {
+        Some(t) => {
+            let steps = next_steps(alloc, walker, state, reply, t)?;
+            Ok(Fork { types, steps })
+        }
+        // There are some.
+        None => unreachable!(),
+    }
 }

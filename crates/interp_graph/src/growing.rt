@@ -1,12 +1,12 @@
 //! A graph in the making, with the states that are still to be followed.
 
-ghost use Rattle.std.specs.Prelude.{◌≡◌, ◌≢◌, ◌<◌, ◌++◌, ◌∷◌, [], ℕ, List, true, AllPairs, length, slice_get, IfOk, OnOk, IfSome, IfNone, IsErrOf};
+ghost use Rattle.std.specs.Prelude.{◌≡◌, ◌≢◌, ◌<◌, ◌++◌, ◌∷◌, [], List, true, AllPairs, length, slice_get, IfOk, OnOk, IfSome, IfNone, IsErrOf};
 ghost use Rattle.net_model.specs.Step.{Setting};
 ghost use Rattle.net_model.specs.declared.walk.State.{State};
 ghost use Rattle.dns_data.specs.TypeSet.{has_bit};
 ghost use Rattle.dns_data.specs.declared.rr_type.RrType.{RrType};
 ghost use Rattle.interp_graph.specs.Drafts.{Draft, Awaits, AreDrafts, draft_of, drafts_of, states_of};
-ghost use Rattle.interp_graph.specs.Growing.{IsSoundSoFar, AreToFollow, Advances, StillWaits, ComesTo, HasMoreComing, HasNoType, IsWithin, Numbered, TookTypes, TooMany, PutArm, drafts_in};
+ghost use Rattle.interp_graph.specs.Growing.{IsSoundSoFar, Advances, StillWaits, ComesTo, HasMoreComing, HasNoType, IsWithin, Numbered, TookTypes, TooMany, PutArm, drafts_in};
 
 use crate::fault::GraphFault;
 use crate::key::Key;
@@ -30,7 +30,7 @@ pub(crate) struct GrowingGraph {
 
 impl GrowingGraph {
     /// A graph without a node, which may have this many pairs.
-    pub fn new(alloc: Global, limit: u32) -> GrowingGraph
+    pub(crate) fn new(alloc: Global, limit: u32) -> GrowingGraph
         ensures sound { IsSoundSoFar result }
         ensures drafts { drafts_in result ≡ [] }
         ensures stack { result.stack.items ≡ [] }
@@ -46,7 +46,7 @@ impl GrowingGraph {
     }
 
     /// Takes a node to which types came, or `None` where there is none.
-    pub fn take(&mut self) -> Option<usize>
+    pub(crate) fn take(&mut self) -> Option<usize>
         requires { IsSoundSoFar self.old }
         ensures sound { IsSoundSoFar self.new }
         ensures drafts { drafts_in self.new ≡ drafts_in self.old }
@@ -60,7 +60,7 @@ impl GrowingGraph {
     }
 
     /// The state of a node.
-    pub fn key(&self, at: usize) -> &Key
+    pub(crate) fn key(&self, at: usize) -> &Key
         requires { at < length (drafts_in self.now) }
         ensures { (draft : Draft) → slice_get (drafts_in self.now) at ≡ Some draft → draft.state ≡ result.now }
     {
@@ -68,7 +68,7 @@ impl GrowingGraph {
     }
 
     /// The types that wait at a node.
-    pub fn waiting(&self, at: usize) -> TypeSet
+    pub(crate) fn waiting(&self, at: usize) -> TypeSet
         requires { at < length (drafts_in self.now) }
         ensures { (draft : Draft) → slice_get (drafts_in self.now) at ≡ Some draft → draft.waiting ≡ result }
     {
@@ -77,7 +77,7 @@ impl GrowingGraph {
 
     /// The number of the node of a state to which types come. They wait there, but for those that came before. It is
     /// `StatesPassed` where there are more pairs then than are allowed.
-    pub fn reach(
+    pub(crate) fn reach(
         &mut self,
         alloc: Global,
         state: Boxed<State>,
@@ -123,7 +123,7 @@ impl GrowingGraph {
     }
 
     /// Gives a node an arm. Its types don't wait any more.
-    pub fn put_arm(&mut self, at: usize, arm: Arm) -> Result<(), NoMemory>
+    pub(crate) fn put_arm(&mut self, at: usize, arm: Arm) -> Result<(), NoMemory>
         requires { at < length (drafts_in self.old) }
         ensures { OnOk result (PutArm self.old self.new at arm) }
     {

@@ -26,21 +26,21 @@ impl Model for Key {
 
 impl Key {
     /// The key of a state.
-    pub fn new(state: Boxed<State>) -> Key
+    pub(crate) fn new(state: Boxed<State>) -> Key
         ensures { result ≡ state }
     {
         Key { state }
     }
 
     /// The state.
-    pub fn state(&self) -> &State
+    pub(crate) fn state(&self) -> &State
         ensures { result.now ≡ self.now }
     {
         self.state.get()
     }
 
     /// The state, by value.
-    pub fn into_state(self) -> Boxed<State>
+    pub(crate) fn into_state(self) -> Boxed<State>
         ensures { result ≡ self }
     {
         self.state

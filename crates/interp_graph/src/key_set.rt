@@ -44,7 +44,7 @@ impl Model for KeySet {
 
 impl KeySet {
     /// No keys. It takes no memory.
-    pub fn new(alloc: Global) -> KeySet
+    pub(crate) fn new(alloc: Global) -> KeySet
         ensures { result ≡ [] }
     {
         KeySet {
@@ -53,7 +53,7 @@ impl KeySet {
     }
 
     /// The key with this number.
-    pub fn key(&self, number: usize) -> &Key
+    pub(crate) fn key(&self, number: usize) -> &Key
         requires { number < length self.now }
         ensures { slice_get self.now number ≡ Some result.now }
     {
@@ -64,7 +64,7 @@ impl KeySet {
     }
 
     /// The number of the key, and whether it is new. A new one gets the next number.
-    pub fn insert(&mut self, alloc: Global, key: Key) -> Result<(usize, bool), NoMemory>
+    pub(crate) fn insert(&mut self, alloc: Global, key: Key) -> Result<(usize, bool), NoMemory>
         ensures taken { IfOk result (λ placed. TakesKey self.old self.new key placed.0 placed.1) }
         ensures distinct { OnOk result (IsDistinct state_eq self.new) }
     {
@@ -73,7 +73,7 @@ impl KeySet {
     }
 
     /// The keys, in the order of their numbers.
-    pub fn into_keys(self, alloc: Global) -> Result<List<Key>, NoMemory>
+    pub(crate) fn into_keys(self, alloc: Global) -> Result<List<Key>, NoMemory>
         ensures { IfOk result (λ keys. keys ≡ self) }
     {
         match self.storage {

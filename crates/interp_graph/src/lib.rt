@@ -7,8 +7,14 @@
 //!
 //! Costs: a state is looked up once for all types that come to it together; a state that is met again takes only the
 //! types that it hasn't had. A few states are looked through one by one, of more each is found by its hash. A state is
-//! made once, and goes from the key by which it is found into the graph; a lookup in a zone copies its name, and
-//! `restrict` copies the states of the graph that it is given. No zone is copied, and no list of walks is made.
+//! made once, and goes from the key by which it is found into the graph; a lookup in a zone copies its name. No zone is
+//! copied, and no list of walks is made.
+//!
+//! `restrict` looks nothing up and hashes nothing. It passes over the nodes of the given graph until none gains a type,
+//! and then copies each node's state and what is left of its arms. Nodes are numbered as they are found, so that mostly
+//! one pass gives all types and a second finds none; there are no more passes than the longest walk has states. Whether a
+//! name server may be followed is asked, in each pass, where a node would gain a type, and once more when its branch is
+//! copied.
 #![tactic(auto)]
 
 mod building;
@@ -19,7 +25,9 @@ mod growing;
 mod key;
 mod key_set;
 mod limited;
+mod limits;
 mod node_types;
+mod reached;
 mod restriction;
 mod step;
 

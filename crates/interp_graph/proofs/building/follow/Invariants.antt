@@ -1,12 +1,10 @@
-use Rattle.std.proofs.Common.{◌≡◌, ◌+◌, ◌-◌, List, length}
-use Rattle.net_model.specs.Step.{Setting}
-use Rattle.net_model.specs.declared.walk.State.{State}
+use Rattle.std.proofs.Common.{◌+◌, ◌-◌, length}
 use Rattle.interp_graph.proofs.Turns.{TurnsSoFar}
 use Rattle.interp_graph.proofs.building.follow.Given as goal
 
 -- the nodes followed so far
 abbrev pub invariant-loop-at : goal.invariant-loop-at
-invariant-loop-at l = TurnsSoFar (λ (setting : Setting) (begin : List State). setting ≡ l.walker) l.fn.growing l.growing
+invariant-loop-at l = TurnsSoFar l.walker l.fn.growing l.growing
 
 -- of the pairs that are allowed those that aren't there yet, and what is to be followed
 abbrev pub decreases-loop-at : goal.decreases-loop-at
