@@ -1,3 +1,2 @@
-pub mod Candidates
-pub mod DelegationsShown
 pub mod LookedInto
+pub mod DelegationsShown

@@ -1,10 +1,11 @@
 -- The kinds of faults that delegations show, and what is known of the graph in which they are looked for.
-use Rattle.std.specs.Prelude.{◌≡◌, Bool, true, false}
-use Rattle.dns_data.specs.Name.{Labels}
+use Rattle.std.specs.Prelude.{◌≡◌, Bool, true, false, not}
+use Rattle.dns_data.specs.Name.{Labels, is_among}
 use Rattle.graph_form.specs.Graph.{PlainGraph}
 use Rattle.graph_form.specs.GraphOf.{IsExactIn, IsGraphOf}
 use Rattle.net_model.specs.Step.{Setting}
 use Rattle.net_model.specs.declared.config.Config.{Config}
+use Rattle.net_model.specs.declared.deps.Deps.{Deps}
 use Rattle.net_model.specs.declared.fault.Fault.{Fault}
 use Rattle.net_model.specs.declared.fault.Fault.TheVariants.{Lame, Differs, NoGlue, GlueDiffers, Cyclic, NoAddress}
 
@@ -17,6 +18,13 @@ is_of_delegations (GlueDiffers cut) = true
 is_of_delegations (Cyclic cut) = true
 is_of_delegations (NoAddress cut) = true
 is_of_delegations fault = false
+
+-- the fault of an end is shown with these lists of learnt addresses: that of a name server without an address if it isn't
+-- in the greatest
+abbrev pub is_shown : Deps → Fault → Bool
+is_shown deps (Lame cut) = true
+is_shown deps (NoAddress cut) = not (is_among deps.greatest cut.ns)
+is_shown deps fault = false
 
 -- the graph is that of the query in the configuration
 pub record IsGraphIn (config : Config) (setting : Setting) (query : Labels) (graph : PlainGraph) : Type 0 where

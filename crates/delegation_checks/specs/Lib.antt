@@ -2,5 +2,4 @@ pub use Rattle.graph_form.specs.GraphOf
 pub use Rattle.graph_form.specs.Verdict
 pub use Rattle.net_model.specs.Shown
 pub mod Delegations
-pub mod Met
 pub mod Referrals

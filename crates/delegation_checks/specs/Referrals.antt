@@ -1,51 +1,57 @@
--- The faults of a referral to a name server and of an end behind it.
-use Rattle.std.specs.Prelude.{◌&&◌, not, List, [], ◌∷◌, ◌++◌, map, Option, Some, None}
-use Rattle.dns_data.specs.Name.{name_eq, is_among}
+-- The referrals that a graph has, as they are collected, and the faults of their zone cuts, whatever comes behind: for the
+-- contracts of the search alone.
+use Rattle.std.specs.Prelude.{◌≡◌, ◌≤◌, ℕ, List, [], ◌∷◌, Option, Some, Contains, slice_get, take}
+use Rattle.std.specs.Ordering.{nat_cmp, ordering_then}
+use Rattle.std.specs.declared.cmp.Ordering.{Ordering}
+use Rattle.dns_data.specs.RrType.{number_of}
 use Rattle.dns_data.specs.declared.rr_type.RrType.{RrType}
-use Rattle.graph_form.specs.Branches.{PlainBranch}
-use Rattle.net_model.specs.declared.deps.Deps.{Deps}
-use Rattle.graph_form.specs.declared.node.Branch.{Branch}
-use Rattle.graph_form.specs.declared.node.Branch.TheVariants.{Go, End}
+use Rattle.graph_form.specs.Branches.{PlainBranch, hop_of}
+use Rattle.graph_form.specs.Verdict.{IsCovered}
+use Rattle.graph_form.specs.declared.report.Seen.{Seen}
+use Rattle.net_model.specs.FaultOrder.{cut_cmp}
 use Rattle.net_model.specs.declared.config.Config.{Config}
+use Rattle.net_model.specs.declared.deps.Deps.{Deps}
 use Rattle.net_model.specs.declared.fault.Fault.{Fault}
-use Rattle.net_model.specs.declared.fault.Fault.TheVariants as faults
 use Rattle.net_model.specs.declared.place.Cut.{Cut}
 use Rattle.net_model.specs.declared.walk.Hop.{Hop}
-use Rattle.net_model.specs.declared.walk.Hop.TheVariants.{Refer, Rewrite}
-use Rattle.net_model.specs.declared.walk.Leaf.{Leaf}
-use Rattle.net_model.specs.declared.walk.Leaf.TheVariants as leaves
-use Rattle.zone_lookup.specs.ReferralFaults.{cut_faults, if_shown}
+use Rattle.net_model.specs.declared.walk.Hop.TheVariants.{Refer}
+use Rattle.delegation_checks.specs.declared.referrals.Met.{Met}
+use Rattle.zone_lookup.specs.ReferralFaults.{cut_faults}
 
--- the faults of an end behind a referral
-abbrev pub leaf_faults : Deps → Cut → Leaf → List Fault
-leaf_faults deps cut (leaves.Lame ns) = if_shown (name_eq cut.ns ns) (faults.Lame cut)
-leaf_faults deps cut (leaves.NoAddress ns) = if_shown (name_eq cut.ns ns && not (is_among deps.greatest cut.ns)) (faults.NoAddress cut)
-leaf_faults deps cut leaf = []
-
--- the faults of the end behind a referral, if the branch ends there
-abbrev pub referral_end_faults : Deps → Cut → Option Leaf → List Fault
-referral_end_faults deps cut None = []
-referral_end_faults deps cut (Some leaf) = leaf_faults deps cut leaf
-
--- a referral by a hop: the zone cut with its name server, and the end behind it, if the branch ends there
-abbrev pub hop_referrals : Hop → Option Leaf → List (Cut × Option Leaf)
-hop_referrals (Refer cut) end = (cut, end) ∷ []
-hop_referrals (Rewrite place by_dname to) end = []
-
--- the referral on a branch, with the end behind it, if the branch has one and ends there
-abbrev pub branch_referrals : Branch → List (Cut × Option Leaf)
-branch_referrals (Go hop to) = hop_referrals hop None
-branch_referrals (End None leaf) = []
-branch_referrals (End (Some hop) leaf) = hop_referrals hop (Some leaf)
-
--- the faults of a referral
-abbrev pub faults_at : Config → Deps → Cut × Option Leaf → List Fault
-faults_at config deps at = cut_faults config deps at.0 ++ referral_end_faults deps at.0 at.1
-
--- each item of a list with one and the same type
-abbrev pub typed : {X : Type 0} → RrType → List X → List (X × RrType)
-typed rtype all = map (λ one. (one, rtype)) all
+-- the referral by a hop, with a type
+abbrev pub hop_referrals : RrType → Option Hop → List (Cut × RrType)
+hop_referrals rtype (Some (Refer cut)) = (cut, rtype) ∷ []
+hop_referrals rtype hop = []
 
 -- the referral on a branch of a graph, with the branch's type
-abbrev pub typed_referrals : PlainBranch → List ((Cut × Option Leaf) × RrType)
-typed_referrals one = typed one.rtype (branch_referrals one.branch)
+abbrev pub branch_referrals : PlainBranch → List (Cut × RrType)
+branch_referrals one = hop_referrals one.rtype (hop_of one.branch)
+
+-- the referral that is met, and its type
+abbrev pub is_met : Met → Cut × RrType
+is_met met = (met.cut.now, met.rtype)
+
+-- the order of referrals that are met: by the name server of the cut, then by the type
+abbrev pub met_cmp : Met → Met → Ordering
+met_cmp a b = ordering_then (cut_cmp a.cut.now b.cut.now) (nat_cmp (number_of a.rtype) (number_of b.rtype))
+
+-- before the referral at the place stands one to the same name server of a cut, with no later type
+pub record IsAgain (met : List Met) (place : ℕ) : Type 0 where
+  pub now : Met
+  pub here : slice_get met place ≡ Some now
+  pub earlier : Met
+  pub has : Contains (take place met) earlier
+  pub same : earlier.cut.now ≡ now.cut.now
+  pub not_later : number_of earlier.rtype ≤ number_of now.rtype
+
+-- a fault of the zone cut of one of these referrals, with its type
+pub record IsOfReferral (config : Config) (deps : Deps) (met : List (Cut × RrType)) (seen : Seen) : Type 0 where
+  pub cut : Cut
+  pub has : Contains met (cut, seen.rtype)
+  pub has_fault : Contains (cut_faults config deps cut) seen.fault
+
+-- the faults of the zone cuts of these referrals, each covered
+pub record AreOfReferrals (config : Config) (deps : Deps) (met : List (Cut × RrType)) (seen : List Seen) : Type 0 where
+  pub from : (one : Seen) → Contains seen one → IsOfReferral config deps met one
+  pub covers : (cut : Cut) (rtype : RrType) (fault : Fault) → Contains met (cut, rtype) → Contains (cut_faults config deps cut) fault
+      → IsCovered seen (record { fault = fault; rtype = rtype })

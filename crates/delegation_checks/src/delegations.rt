@@ -2,17 +2,37 @@
 
 ghost use Rattle.std.specs.Prelude.{IfOk};
 ghost use Rattle.dns_data.specs.Name.{Labels};
-ghost use Rattle.delegation_checks.specs.Delegations.{IsGraphIn, is_of_delegations};
+ghost use Rattle.delegation_checks.specs.Delegations.{IsGraphIn, is_of_delegations, is_shown};
 ghost use Rattle.graph_form.specs.Verdict.{AreShownOf};
 ghost use Rattle.net_model.specs.Shown.{with_lists};
 ghost use Rattle.net_model.specs.Step.{Setting};
 
-use crate::referral_faults::faults_of;
+use crate::cut_faults::cut_faults_of;
 use crate::referrals::referrals_of;
 use dns_data::{List, NoMemory};
-use graph_form::{Deps, Graph, Seen, first_types};
+use graph_form::{
+    Deps, EndFault, Graph, PicksFaults, Seen, first_types, put_end_faults, typed_branches,
+};
 use std::alloc::Global;
 use zone_lookup::{Hosts, LearntSets};
+
+/// Picks the lame name servers, and those without an address that aren't in the greatest set.
+#[derive(Clone, Copy)]
+struct ServerFaults<'s> {
+    sets: &'s LearntSets,
+}
+
+impl<'s> PicksFaults for ServerFaults<'s> {
+    ghost picked = { λ picker. is_shown picker.sets.now };
+
+    fn picks(&self, fault: &EndFault<'_>) -> bool {
+        match fault {
+            EndFault::Lame(_) => true,
+            EndFault::NoAddress(cut) => !self.sets.has_greatest(&cut.ns),
+            EndFault::Limit(_) | EndFault::Blackhole(_) | EndFault::Overlong(_) => false,
+        }
+    }
+}
 
 /// The faults of delegations that the query of a graph shows in the configuration of the servers, each once and with its
 /// first type, in fault order. The two lists stand in the place of the least and the greatest set of learnt addresses. It
@@ -45,8 +65,15 @@ pub fn delegation_faults_with(
     ensures { IfOk result (λ shown. (setting : Setting) (query : Labels) → IsGraphIn hosts.now setting query graph.now
         → AreShownOf (with_lists setting sets.now.least sets.now.greatest) query is_of_delegations shown) }
 {
-    let met = referrals_of(alloc, graph)?;
-    let seen = faults_of(alloc, hosts, sets, met)?;
+    let branches = typed_branches(alloc, graph)?;
+    let met = referrals_of(alloc, branches.as_slice())?;
+    let mut seen = cut_faults_of(alloc, hosts, sets, met)?;
+    put_end_faults(
+        alloc,
+        branches.as_slice(),
+        &ServerFaults { sets },
+        &mut seen,
+    )?;
     // Named, since the proof speaks of the list that comes where memory suffices.
     let shown = first_types(alloc, seen)?;
     Ok(shown)

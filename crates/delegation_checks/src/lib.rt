@@ -10,8 +10,8 @@
 //! No walk is listed.
 #![tactic(auto)]
 
+mod cut_faults;
 mod delegations;
-mod referral_faults;
 mod referrals;
 
 pub use delegations::{delegation_faults, delegation_faults_with};

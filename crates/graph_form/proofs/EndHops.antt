@@ -1,18 +1,17 @@
 -- A walk that ends lame, or at a name server without an address, ends behind a referral.
-use Rattle.std.proofs.Common.{◌≡◌, ◌+◌, Bool, true, false, cond, List, [], ◌∷◌, map, refl, Option, Some, None}
-use Rattle.std.specs.Prelude.{◌&&◌, not, nat_lt}
+use Rattle.std.proofs.Common.{◌≡◌, Bool, true, false, cond, List, refl, Option, Some, None}
+use Rattle.std.specs.Prelude.{not, nat_lt}
 use Rattle.std.specs.List.{AllByRecursion}
 use Rattle.dns_data.specs.Name.{Labels, is_prefix}
 use Rattle.dns_data.specs.declared.rr_type.RrType.{RrType}
+use Rattle.dns_data.proofs.Membership.{all_images}
 use Rattle.net_model.specs.Lookup.{found}
 use Rattle.net_model.specs.Nearest.{nearest_of, is_configured}
-use Rattle.net_model.specs.Step.{Setting, Branch, Go, End, arrived, delegated, referred, may_follow, servers_after, after_lookup, in_zone, next}
+use Rattle.net_model.specs.Step.{Setting, Branch, Go, End, delegated, referred, may_follow, servers_after, after_lookup, in_zone, next}
 use Rattle.net_model.specs.declared.config.Zone.{Zone}
 use Rattle.net_model.specs.declared.found.Found.{Found}
 use Rattle.net_model.specs.declared.found.Found.TheVariants as found_as
 use Rattle.net_model.specs.declared.place.Cut.{Cut}
-use Rattle.net_model.specs.declared.place.Place.{Place}
-use Rattle.net_model.specs.declared.walk.Hop.TheVariants.{Rewrite}
 use Rattle.net_model.specs.declared.walk.Leaf.{Leaf}
 use Rattle.net_model.specs.declared.walk.Leaf.TheVariants as leaves
 use Rattle.net_model.specs.declared.walk.State.{State}
@@ -47,23 +46,15 @@ module _ (setting : Setting) (state : State) where
       either (not (is_configured setting.config cut.ns)) _ _ tt
       (either (not (may_follow setting.config cut setting.followed)) _ _ tt (of_delegated cut (nearest_of setting.config cut.ns state.name)))
 
-  of_names : (origin cut : Labels) (names : List Labels)
-      → AllByRecursion StopsBehindHop (map (λ ns. referred setting state (record { server = state.server; zone = origin; cut = cut; ns = ns })) names)
-  of_names origin cut [] = tt
-  of_names origin cut (ns ∷ names) = (of_referred (record { server = state.server; zone = origin; cut = cut; ns = ns }), of_names origin cut names)
-
-  of_servers : (place : Place) (by_dname : Bool) (to : Labels) (servers : List Labels)
-      → AllByRecursion StopsBehindHop (map (λ server. Go (Rewrite place by_dname to) (arrived setting.config to (state.carried && by_dname) (state.used + 1) (Some place) server)) servers)
-  of_servers place by_dname to [] = tt
-  of_servers place by_dname to (server ∷ servers) = (tt, of_servers place by_dname to servers)
-
   of_found : (origin : Labels) (what : Found) → AllByRecursion StopsBehindHop (after_lookup setting state origin what)
   of_found origin (found_as.Answer rdata) = (refl, tt)
   of_found origin found_as.NoData = (refl, tt)
   of_found origin found_as.NxDomain = (refl, tt)
-  of_found origin (found_as.Referral cut names) = of_names origin cut names
+  of_found origin (found_as.Referral cut names) =
+      all_images _ StopsBehindHop names (λ ns has. of_referred (record { server = state.server; zone = origin; cut = cut; ns = ns }))
   of_found origin (found_as.Rewrite by_dname owner to) =
-      either_list (nat_lt state.used setting.rewrites) _ _ (of_servers _ by_dname to (servers_after setting.config state to)) (refl, tt)
+      either_list (nat_lt state.used setting.rewrites) _ _
+      (all_images _ StopsBehindHop (servers_after setting.config state to) (λ server has. tt)) (refl, tt)
   of_found origin (found_as.TooLong owner) = either_list (nat_lt state.used setting.rewrites) _ _ (refl, tt) (refl, tt)
 
   -- no branch of a state ends, without a hop, at a name server that can't be asked

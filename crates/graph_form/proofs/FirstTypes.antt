@@ -25,30 +25,29 @@ use Rattle.graph_form.specs.declared.report.Seen.{Seen}
 
 -- ---- faults that tie are one
 
+-- places with the same parts are one
+pub place_by_parts : (a b : Place) → a.server ≡ b.server → a.zone ≡ b.zone → a.owner ≡ b.owner → a ≡ b
+place_by_parts a b server zone owner =
+    ap (λ x. record a { server = x }) server ∙ (ap (λ x. record b { zone = x; owner = a.owner }) zone ∙ ap (λ x. record b { owner = x }) owner)
+
+-- name servers of delegations with the same parts are one
+pub cut_by_parts : (a b : Cut) → a.server ≡ b.server → a.zone ≡ b.zone → a.cut ≡ b.cut → a.ns ≡ b.ns → a ≡ b
+cut_by_parts a b server zone cut ns =
+    ap (λ x. record a { server = x }) server
+    ∙ (ap (λ x. record a { server = b.server; zone = x }) zone ∙ (ap (λ x. record b { cut = x; ns = a.ns }) cut ∙ ap (λ x. record b { ns = x }) ns))
+
 one_place : (a b : Place) → place_cmp a b ≡ Equal → a ≡ b
 one_place a b e =
     let one = both_tie (name_cmp a.server b.server) _ e in
     let two = both_tie (name_cmp a.zone b.zone) (name_cmp a.owner b.owner) one.1 in
-    let first : a ≡ record { server = b.server; zone = a.zone; owner = a.owner } = ap (λ x. record { server = x; zone = a.zone; owner = a.owner }) (same_names a.server b.server one.0) in
-    let second : record { server = b.server; zone = a.zone; owner = a.owner } ≡ record { server = b.server; zone = b.zone; owner = a.owner } =
-    ap (λ x. record { server = b.server; zone = x; owner = a.owner }) (same_names a.zone b.zone two.0) in
-    let third : record { server = b.server; zone = b.zone; owner = a.owner } ≡ b = ap (λ x. record { server = b.server; zone = b.zone; owner = x }) (same_names a.owner b.owner two.1) in
-    first ∙ (second ∙ third)
+    place_by_parts a b (same_names a.server b.server one.0) (same_names a.zone b.zone two.0) (same_names a.owner b.owner two.1)
 
 one_cut : (a b : Cut) → cut_cmp a b ≡ Equal → a ≡ b
 one_cut a b e =
     let one = both_tie (name_cmp a.server b.server) _ e in
     let two = both_tie (name_cmp a.zone b.zone) _ one.1 in
     let three = both_tie (name_cmp a.cut b.cut) (name_cmp a.ns b.ns) two.1 in
-    let first : a ≡ record { server = b.server; zone = a.zone; cut = a.cut; ns = a.ns } =
-    ap (λ x. record { server = x; zone = a.zone; cut = a.cut; ns = a.ns }) (same_names a.server b.server one.0) in
-    let second : record { server = b.server; zone = a.zone; cut = a.cut; ns = a.ns } ≡ record { server = b.server; zone = b.zone; cut = a.cut; ns = a.ns } =
-    ap (λ x. record { server = b.server; zone = x; cut = a.cut; ns = a.ns }) (same_names a.zone b.zone two.0) in
-    let third : record { server = b.server; zone = b.zone; cut = a.cut; ns = a.ns } ≡ record { server = b.server; zone = b.zone; cut = b.cut; ns = a.ns } =
-    ap (λ x. record { server = b.server; zone = b.zone; cut = x; ns = a.ns }) (same_names a.cut b.cut three.0) in
-    let fourth : record { server = b.server; zone = b.zone; cut = b.cut; ns = a.ns } ≡ b =
-    ap (λ x. record { server = b.server; zone = b.zone; cut = b.cut; ns = x }) (same_names a.ns b.ns three.1) in
-    first ∙ (second ∙ (third ∙ fourth))
+    cut_by_parts a b (same_names a.server b.server one.0) (same_names a.zone b.zone two.0) (same_names a.cut b.cut three.0) (same_names a.ns b.ns three.1)
 
 same_number : (a b : ℕ) → nat_cmp a b ≡ Equal → a ≡ b
 same_number a b e = exact_unsigned a b e

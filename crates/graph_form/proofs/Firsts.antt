@@ -1,6 +1,7 @@
 -- The first walk and the first pair of walks that show a fault, from the first paths that take a branch that shows it.
-use Rattle.std.proofs.Common.{◌≡◌, ◌≢◌, ℕ, Bool, true, false, ◌&&◌, not, List, [], ◌∷◌, map, refl, sym, ap, ◌∙◌, subst, Some, true≢false}
+use Rattle.std.proofs.Common.{◌≡◌, ◌≢◌, ℕ, Bool, true, false, ◌&&◌, not, List, [], ◌∷◌, map, refl, sym, ap, ◌∙◌, subst, Some, None, true≢false}
 use Rattle.std.specs.Prelude.{Option}
+use Rattle.std.specs.Option.{option_map_or}
 use Rattle.std.specs.Ordering.{nat_cmp, ordering_then}
 use Rattle.std.specs.declared.cmp.Ordering.{Ordering}
 use Rattle.std.specs.declared.cmp.Ordering.TheVariants.{Less, Equal, Greater}
@@ -23,8 +24,9 @@ use Rattle.graph_form.specs.GraphOf.{IsGraphOf}
 use Rattle.graph_form.specs.Report.{paths_cmp}
 use Rattle.graph_form.specs.Trails.{AreFirst, GraphShows, PathsTake, WalksTake}
 use Rattle.graph_form.proofs.EqualAnswers.{same_answers, answer_itself}
-use Rattle.graph_form.proofs.ShownKinds.{IsTaken, tells}
-use Rattle.graph_form.proofs.TakenPaths.{takes_along_shown, shown_along}
+use Rattle.graph_form.proofs.ShownBranches.{shows_takes, takes_shows, tells, walk_shows}
+use Rattle.graph_form.proofs.Taking.{IsSingle, alone}
+use Rattle.graph_form.proofs.TakenPaths.{takes_along_is}
 
 -- two orders, one behind the other
 not_less_then : (o p : Ordering) → o ≢ Less → (o ≡ Equal → p ≢ Less) → ordering_then o p ≢ Less
@@ -64,64 +66,33 @@ two_paths along (path ∷ next ∷ []) one other e =
 two_paths along (path ∷ next ∷ third ∷ paths) one other e = cc
 
 module _ (setting : Setting) (query : Labels) (graph : PlainGraph) (rtype : RrType) (is : IsGraphOf setting query graph) where
-  -- a walk that shows the fault by itself
-  abbrev Taken : Fault → List Walk → Walk → Type 0
-  Taken fault walks walk = IsTaken graph rtype setting query is fault walks walk
+  -- ---- paths of walks that show a fault by themselves
 
-  -- the fault isn't that answers differ
-  abbrev pub IsSingle : Fault → Type 0
-  IsSingle fault = (class : Class) (t : RrType) → fault ≡ faults.Answers class t → ⊥
+  same : (fault : Fault) (walks : List Walk) (numbers : List ℕ) (walk : Walk) → path_along graph rtype numbers ≡ Some walk
+      → takes_along (branch_shows fault walks) graph rtype numbers ≡ walk_shows fault walks walk
+  same fault walks numbers walk e =
+      takes_along_is graph rtype (walk_shows fault walks) (branch_shows fault walks) (tells graph rtype setting query is fault walks) numbers
+      ∙ ap (λ (one : Option Walk). option_map_or (walk_shows fault walks) one false) e
 
-  record Alone (fault : Fault) (walks : List Walk) : Type 0 where
-    pub walk : Walk
-    pub walks_are : walks ≡ walk ∷ []
-    pub taken : Taken fault [] walk
-
-  -- no two walks show such a fault
-  no_pair : (fault : Fault) (one other : Walk) → IsSingle fault → WalksTake (one ∷ other ∷ []) fault → ⊥
-  no_pair (faults.Answers class t) one other single take = single class t refl
-  no_pair fault one other single take = take
-
-  -- it is shown by one walk
-  alone : (fault : Fault) (walks : List Walk) → IsSingle fault → WalksTake walks fault → Alone fault walks
-  alone fault [] single take = absurd take
-  alone fault (one ∷ other ∷ []) single take = absurd (no_pair fault one other single take)
-  alone fault (one ∷ other ∷ third ∷ walks) single take = absurd take
-  alone (faults.Lame cut) (walk ∷ []) single take = record { walk = walk; walks_are = refl; taken = (take.behind, take.ends) }
-  alone (faults.Differs cut) (walk ∷ []) single take = record { walk = walk; walks_are = refl; taken = take }
-  alone (faults.NoGlue cut) (walk ∷ []) single take = record { walk = walk; walks_are = refl; taken = take }
-  alone (faults.GlueDiffers cut) (walk ∷ []) single take = record { walk = walk; walks_are = refl; taken = take }
-  alone (faults.Cyclic cut) (walk ∷ []) single take = record { walk = walk; walks_are = refl; taken = take }
-  alone (faults.Limit place) (walk ∷ []) single take = record { walk = walk; walks_are = refl; taken = take }
-  alone (faults.Blackhole place) (walk ∷ []) single take = record { walk = walk; walks_are = refl; taken = take }
-  alone (faults.Answers class t) (walk ∷ []) single take = absurd (single class t refl)
-  alone (faults.Overlong place) (walk ∷ []) single take = record { walk = walk; walks_are = refl; taken = take }
-  alone (faults.NoAddress cut) (walk ∷ []) single take = record { walk = walk; walks_are = refl; taken = (take.behind, take.ends) }
-
-  -- and the other way round
-  one_takes : (fault : Fault) (walk : Walk) → IsSingle fault → Taken fault [] walk → WalksTake (walk ∷ []) fault
-  one_takes (faults.Lame cut) walk single taken = record { behind = taken.0; ends = taken.1 }
-  one_takes (faults.Differs cut) walk single taken = taken
-  one_takes (faults.NoGlue cut) walk single taken = taken
-  one_takes (faults.GlueDiffers cut) walk single taken = taken
-  one_takes (faults.Cyclic cut) walk single taken = taken
-  one_takes (faults.Limit place) walk single taken = taken
-  one_takes (faults.Blackhole place) walk single taken = taken
-  one_takes (faults.Answers class t) walk single taken = absurd (single class t refl)
-  one_takes (faults.Overlong place) walk single taken = taken
-  one_takes (faults.NoAddress cut) walk single taken = record { behind = taken.0; ends = taken.1 }
-
-  -- ---- paths of such walks
-
-  takes : (fault : Fault) (walks : List Walk) (numbers : List ℕ) (walk : Walk) → path_along graph rtype numbers ≡ Some walk → Taken fault walks walk
+  takes : (fault : Fault) (walks : List Walk) (numbers : List ℕ) (walk : Walk) → path_along graph rtype numbers ≡ Some walk → walk_shows fault walks walk ≡ true
       → takes_along (branch_shows fault walks) graph rtype numbers ≡ true
-  takes fault walks numbers walk e taken =
-      takes_along_shown graph rtype (Taken fault walks) (branch_shows fault walks) (tells graph rtype setting query is fault walks) numbers walk e taken
+  takes fault walks numbers walk e shows = same fault walks numbers walk e ∙ shows
 
   taken_by : (fault : Fault) (walks : List Walk) (numbers : List ℕ) (walk : Walk) → path_along graph rtype numbers ≡ Some walk
-      → takes_along (branch_shows fault walks) graph rtype numbers ≡ true → Taken fault walks walk
-  taken_by fault walks numbers walk e so =
-      shown_along graph rtype (Taken fault walks) (branch_shows fault walks) (tells graph rtype setting query is fault walks) numbers walk e so
+      → takes_along (branch_shows fault walks) graph rtype numbers ≡ true → walk_shows fault walks walk ≡ true
+  taken_by fault walks numbers walk e so = sym (same fault walks numbers walk e) ∙ so
+
+  -- numbers that take a branch that shows the fault are those of a walk
+  pub whole_along : (fault : Fault) (walks : List Walk) (numbers : List ℕ) → takes_along (branch_shows fault walks) graph rtype numbers ≡ true
+      → (walk : Walk) × (path_along graph rtype numbers ≡ Some walk)
+  whole_along fault walks numbers so =
+      by (path_along graph rtype numbers) refl
+      (sym (takes_along_is graph rtype (walk_shows fault walks) (branch_shows fault walks) (tells graph rtype setting query is fault walks) numbers) ∙ so)
+    where
+      by : (found : Option Walk) → path_along graph rtype numbers ≡ found → option_map_or (walk_shows fault walks) found false ≡ true
+          → (walk : Walk) × (path_along graph rtype numbers ≡ Some walk)
+      by None is so = cc
+      by (Some walk) is so = (walk, is)
 
   -- ---- one walk
 
@@ -130,8 +101,8 @@ module _ (setting : Setting) (query : Labels) (graph : PlainGraph) (rtype : RrTy
       → (numbers : List ℕ) × (takes_along (branch_shows fault []) graph rtype numbers ≡ true)
   single_shown fault single (paths, walks, shows) =
       let one = alone fault walks single shows.take in
-      let path = one_path (path_along graph rtype) paths one.walk (shows.are_paths ∙ ap (map Some) one.walks_are) in
-      (path.path, takes fault [] path.path one.walk path.is one.taken)
+      let path = one_path (path_along graph rtype) paths one.0 (shows.are_paths ∙ ap (map Some) one.1) in
+      (path.path, takes fault [] path.path one.0 path.is (takes_shows fault one.0 single one.2))
 
   -- the first walk by a branch that shows a fault, other than differing answers, is the first that shows it
   pub first_single : (fault : Fault) (walk : Walk) → IsSingle fault → IsFirstWalk (branch_shows fault []) graph rtype walk
@@ -139,16 +110,17 @@ module _ (setting : Setting) (query : Labels) (graph : PlainGraph) (rtype : RrTy
   first_single fault walk single (numbers, first, is_walk) =
       record {
         paths = numbers ∷ [];
-        show = record { are_paths = ap (λ w. w ∷ []) is_walk; take = one_takes fault walk single (taken_by fault [] numbers walk is_walk first.takes) };
+        show = record { are_paths = ap (λ w. w ∷ []) is_walk; take = shows_takes fault walk single (taken_by fault [] numbers walk is_walk first.takes) };
         first = λ others walks shows. by others walks shows;
       }
     where
       by : (others : List (List ℕ)) (walks : List Walk) → PathsTake graph rtype fault others walks → paths_cmp others (numbers ∷ []) ≢ Less
       by others walks shows =
           let one = alone fault walks single shows.take in
-          let path = one_path (path_along graph rtype) others one.walk (shows.are_paths ∙ ap (map Some) one.walks_are) in
+          let path = one_path (path_along graph rtype) others one.0 (shows.are_paths ∙ ap (map Some) one.1) in
           subst (λ ps. paths_cmp ps (numbers ∷ []) ≢ Less) (sym path.paths_are)
-          (not_less_then (path_cmp path.path numbers) Equal (first.first path.path (takes fault [] path.path one.walk path.is one.taken)) (λ tie e. cc))
+          (not_less_then (path_cmp path.path numbers) Equal
+          (first.first path.path (takes fault [] path.path one.0 path.is (takes_shows fault one.0 single one.2))) (λ tie e. cc))
 
   -- ---- a pair
 
@@ -269,13 +241,5 @@ module _ (setting : Setting) (query : Labels) (graph : PlainGraph) (rtype : RrTy
 
   -- if the graph shows a fault, some path takes a branch that shows it
   pub some_path : (fault : Fault) → GraphShows graph rtype fault → (numbers : List ℕ) × (takes_along (branch_shows fault []) graph rtype numbers ≡ true)
-  some_path (faults.Lame cut) shows = single_shown (faults.Lame cut) (λ class t e. cc) shows
-  some_path (faults.Differs cut) shows = single_shown (faults.Differs cut) (λ class t e. cc) shows
-  some_path (faults.NoGlue cut) shows = single_shown (faults.NoGlue cut) (λ class t e. cc) shows
-  some_path (faults.GlueDiffers cut) shows = single_shown (faults.GlueDiffers cut) (λ class t e. cc) shows
-  some_path (faults.Cyclic cut) shows = single_shown (faults.Cyclic cut) (λ class t e. cc) shows
-  some_path (faults.Limit place) shows = single_shown (faults.Limit place) (λ class t e. cc) shows
-  some_path (faults.Blackhole place) shows = single_shown (faults.Blackhole place) (λ class t e. cc) shows
   some_path (faults.Answers class t) shows = pair_shown class t shows
-  some_path (faults.Overlong place) shows = single_shown (faults.Overlong place) (λ class t e. cc) shows
-  some_path (faults.NoAddress cut) shows = single_shown (faults.NoAddress cut) (λ class t e. cc) shows
+  some_path fault shows = single_shown fault (λ class t e. cc) shows

@@ -10,7 +10,9 @@ pub mod PassedBranches
 pub mod SearchStates
 pub mod TakenPaths
 pub mod EndHops
+pub mod Lasts
 pub mod ShownKinds
+pub mod ShownBranches
 pub mod Firsts
 pub mod WalksLed
 pub mod TwiceEqual
@@ -19,5 +21,6 @@ pub mod FirstTypes
 pub mod FirstFaults
 pub mod ReachedHops
 pub mod Verdicts
+pub mod EndsShown
 pub mod TypedBranches
 pub mod TreeSizes

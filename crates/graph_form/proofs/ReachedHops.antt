@@ -13,6 +13,7 @@ use Rattle.net_model.specs.declared.walk.Hop.{Hop}
 use Rattle.net_model.specs.declared.walk.Leaf.{Leaf}
 use Rattle.net_model.specs.declared.walk.Walk.{Walk}
 use Rattle.net_model.proofs.EndsSomewhere.{ends_somewhere}
+use Rattle.graph_form.specs.Branches.{hop_of}
 use Rattle.graph_form.specs.Graph.{HasBranch, PlainGraph, path_from, path_along}
 use Rattle.graph_form.specs.GraphOf.{IsExactIn, IsGraphOf}
 use Rattle.graph_form.specs.declared.node.Branch.{Branch}
@@ -26,11 +27,6 @@ use Rattle.graph_form.proofs.ReachedNodes.{reached, walk_by}
 use Rattle.graph_form.proofs.TakenPaths.{path_by, path_parts, GoesOn, EndsSo}
 use Rattle.graph_form.proofs.WalksLed.{behind}
 
--- the branch has the hop
-abbrev pub HasHop : Hop → Branch → Type 0
-HasHop hop (Go other to) = other ≡ hop
-HasHop hop (End other leaf) = other ≡ Some hop
-
 module _ (graph : PlainGraph) (rtype : RrType) where
   -- a branch with the hop
   pub record HopAt (hop : Hop) : Type 0 where
@@ -39,7 +35,7 @@ module _ (graph : PlainGraph) (rtype : RrType) where
     pub node : Node
     pub branch : Branch
     pub has : HasBranch graph rtype at number node branch
-    pub has_hop : HasHop hop branch
+    pub has_hop : hop_of branch ≡ Some hop
 
   by_end : (at number : ℕ) (node : Node) (last : Option Hop) (leaf : Leaf) (hop : Hop) → HasBranch graph rtype at number node (End last leaf)
       → Contains (option_to_list last) hop → HopAt hop
@@ -59,7 +55,7 @@ module _ (graph : PlainGraph) (rtype : RrType) where
           → ((to : ℕ) (later : Walk) → path_from graph rtype numbers to ≡ Some later → Contains later.hops hop → HopAt hop) → HopAt hop
       by (inl on) rest =
           elim (first_or_later on.hop on.later.hops hop (subst (λ (w : Walk). Contains w.hops hop) (sym on.made) among)) [
-            | inl same ↦ record { at = at; number = number; node = on.node; branch = Go on.hop on.to; has = on.has; has_hop = same }
+            | inl same ↦ record { at = at; number = number; node = on.node; branch = Go on.hop on.to; has = on.has; has_hop = ap (λ h. Some h) same }
             | inr later ↦ rest on.to on.later on.goes later
           ]
       by (inr end) rest = by_end at number end.node end.hop end.leaf hop end.has (subst (λ (w : Walk). Contains w.hops hop) (sym end.made) among)
@@ -120,8 +116,9 @@ module _ (graph : PlainGraph) (rtype : RrType) where
         }
 
     -- the hop of a branch is on a walk of the query
-    pub walk_with : (at number : ℕ) (node : Node) (branch : Branch) (hop : Hop) → HasBranch graph rtype at number node branch → HasHop hop branch → WalkWith hop
+    pub walk_with : (at number : ℕ) (node : Node) (branch : Branch) (hop : Hop) → HasBranch graph rtype at number node branch → hop_of branch ≡ Some hop → WalkWith hop
     walk_with at number node (Go other to) hop has same =
-        goes_with at number to node hop (subst (λ h. HasBranch graph rtype at number node (Go h to)) same has)
+        let is : other ≡ hop = cc in
+        goes_with at number to node hop (subst (λ h. HasBranch graph rtype at number node (Go h to)) is has)
     walk_with at number node (End other leaf) hop has same =
         ends_with at number node hop leaf (subst (λ h. HasBranch graph rtype at number node (End h leaf)) same has)

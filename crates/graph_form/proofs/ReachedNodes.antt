@@ -2,7 +2,7 @@
 -- one.
 use Rattle.std.proofs.Common.{◌≡◌, ℕ, ◌<◌, List, [], ◌∷◌, ◌++◌, get_or, refl, sym, ap, ◌∙◌, subst, inl, inr, Some, None}
 use Rattle.std.specs.Prelude.{◌⊎◌, Contains, slice_get, Option, option_map, option_and_then}
-use Rattle.std.specs.Option.{option_to_list, unwrap_or}
+use Rattle.std.specs.Option.{unwrap_or}
 use Rattle.std.proofs.lemmas.Bool.{cases_order}
 use Rattle.std.proofs.lemmas.Option.{slice_get_within, unwrap_or-slice_get}
 use Rattle.dns_data.specs.Name.{Labels}
@@ -22,7 +22,7 @@ use Rattle.graph_form.specs.declared.node.Node.{Node}
 use Rattle.graph_form.proofs.NoCircle.{of_arm}
 use Rattle.graph_form.proofs.Paths.{path_is_walk}
 use Rattle.graph_form.proofs.Reached.{pair_there}
-use Rattle.graph_form.proofs.TakenPaths.{ended, path_by, path_parts, GoesOn, EndsSo}
+use Rattle.graph_form.proofs.TakenPaths.{ended, ends_at_once, ends_later, path_by, path_parts, EndsAs, GoesOn, EndsSo}
 use Rattle.graph_form.proofs.WalksLed.{behind, behind_nothing}
 
 -- a walk behind others, and one state and hop in front of all
@@ -42,13 +42,11 @@ module _ (graph : PlainGraph) (rtype : RrType) where
     pub hop : Option Hop
     pub leaf : Leaf
     pub has : HasBranch graph rtype at number node (End hop leaf)
-    pub leaf_is : walk.leaf ≡ leaf
-    pub before : List State
-    pub states_are : walk.states ≡ before ++ node.state ∷ []
-    pub hops_before : List Hop
-    pub hops_are : walk.hops ≡ hops_before ++ option_to_list hop
+    pub ends : EndsAs walk node.state hop leaf
+    pub open ends use *
 
-  end_of_rest : (numbers : List ℕ) (at : ℕ) (walk : Walk) → path_from graph rtype numbers at ≡ Some walk → EndOf walk
+  -- the walk of the rest of a path ends by a branch of a node
+  pub end_of_rest : (numbers : List ℕ) (at : ℕ) (walk : Walk) → path_from graph rtype numbers at ≡ Some walk → EndOf walk
   end_of_rest [] at walk e = cc
   end_of_rest (number ∷ numbers) at walk e = by (path_parts graph rtype numbers at number walk e) (λ to later goes. end_of_rest numbers to later goes) where
     goes_on : (on : GoesOn graph rtype numbers at number walk) → EndOf on.later → EndOf (led_on on.node.state on.hop on.later)
@@ -60,28 +58,12 @@ module _ (graph : PlainGraph) (rtype : RrType) where
           hop = end.hop;
           leaf = end.leaf;
           has = end.has;
-          leaf_is = end.leaf_is;
-          before = on.node.state ∷ end.before;
-          states_are = ap (λ (all : List State). on.node.state ∷ all) end.states_are;
-          hops_before = on.hop ∷ end.hops_before;
-          hops_are = ap (λ (all : List Hop). on.hop ∷ all) end.hops_are;
+          ends = ends_later on.node.state on.hop on.later end.node.state end.hop end.leaf end.ends;
         }
 
     ends_here : (end : EndsSo graph rtype numbers at number walk) → EndOf (ended end.node.state end.hop end.leaf)
     ends_here end =
-        record {
-          at = at;
-          number = number;
-          node = end.node;
-          hop = end.hop;
-          leaf = end.leaf;
-          has = end.has;
-          leaf_is = refl;
-          before = [];
-          states_are = refl;
-          hops_before = [];
-          hops_are = refl;
-        }
+        record { at = at; number = number; node = end.node; hop = end.hop; leaf = end.leaf; has = end.has; ends = ends_at_once end.node.state end.hop end.leaf }
 
     by : GoesOn graph rtype numbers at number walk ⊎ EndsSo graph rtype numbers at number walk
         → ((to : ℕ) (later : Walk) → path_from graph rtype numbers to ≡ Some later → EndOf later) → EndOf walk
@@ -217,11 +199,8 @@ module _ (graph : PlainGraph) (rtype : RrType) where
     pub record WalkBy (node : Node) (hop : Option Hop) (leaf : Leaf) : Type 0 where
       pub walk : Walk
       pub is_walk : IsWalk setting query rtype walk
-      pub leaf_is : walk.leaf ≡ leaf
-      pub before : List State
-      pub states_are : walk.states ≡ before ++ node.state ∷ []
-      pub hops_before : List Hop
-      pub hops_are : walk.hops ≡ hops_before ++ option_to_list hop
+      pub ends : EndsAs walk node.state hop leaf
+      pub open ends use *
 
     -- each branch that is an end ends a walk of the query
     pub walk_by : (at number : ℕ) (node : Node) (hop : Option Hop) (leaf : Leaf) → HasBranch graph rtype at number node (End hop leaf) → WalkBy node hop leaf
@@ -234,11 +213,7 @@ module _ (graph : PlainGraph) (rtype : RrType) where
             sym (path_is_walk setting query graph rtype is (to.numbers ++ number ∷ []))
                 ∙ (to.leads number [] ∙ ap (option_map (behind to.states to.hops)) (path_by graph rtype [] at number node (End hop leaf) has)),
           );
-          leaf_is = refl;
-          before = to.states;
-          states_are = refl;
-          hops_before = to.hops;
-          hops_are = refl;
+          ends = record { leaf_is = refl; before = to.states; states_are = refl; hops_before = to.hops; hops_are = refl };
         }
 
     -- the branch by which a walk of the query ends

@@ -1,5 +1,7 @@
--- A fault is shown by what walks take and by what the zones hold.
-use Rattle.std.proofs.Common.{List, [], ◌∷◌}
+-- A fault is shown by what walks take and by what the zones hold; each but differing answers by one walk.
+use Rattle.std.proofs.Common.{◌≡◌, List, [], ◌∷◌, refl}
+use Rattle.dns_data.specs.declared.rr_type.RrType.{RrType}
+use Rattle.net_model.specs.declared.class.Class.{Class}
 use Rattle.net_model.specs.declared.fault.Fault.{Fault}
 use Rattle.net_model.specs.declared.fault.Fault.TheVariants as faults
 use Rattle.net_model.specs.declared.walk.Walk.{Walk}
@@ -8,17 +10,12 @@ use Rattle.graph_form.specs.Trails.{WalksTake, ZonesShow}
 
 -- walks that show a fault show by themselves what the fault takes of walks
 pub taken : (setting : FaultSetting) (walks : List Walk) (fault : Fault) → WalksShow setting walks fault → WalksTake walks fault
-taken setting (walk ∷ []) (faults.Lame cut) shows = shows
 taken setting (walk ∷ []) (faults.Differs cut) shows = shows.refers
 taken setting (walk ∷ []) (faults.NoGlue cut) shows = shows.refers
 taken setting (walk ∷ []) (faults.GlueDiffers cut) shows = shows.refers
 taken setting (walk ∷ []) (faults.Cyclic cut) shows = shows.refers
-taken setting (walk ∷ []) (faults.Limit place) shows = shows
-taken setting (walk ∷ []) (faults.Blackhole place) shows = shows
-taken setting (one ∷ other ∷ []) (faults.Answers class rtype) shows = shows
-taken setting (walk ∷ []) (faults.Overlong place) shows = shows
 taken setting (walk ∷ []) (faults.NoAddress cut) shows = record { behind = shows.behind; ends = shows.ends }
-taken setting walks fault shows = absurd shows
+taken setting walks fault shows = shows
 
 -- if walks show a fault, the zones show what the fault takes of zones
 pub zones : (setting : FaultSetting) (walks : List Walk) (fault : Fault) → WalksShow setting walks fault → ZonesShow setting fault
@@ -36,14 +33,25 @@ zones setting walks fault shows = absurd shows
 
 -- walks that show by themselves what a fault takes of walks show it, if the zones show what it takes of zones
 pub shown : (setting : FaultSetting) (walks : List Walk) (fault : Fault) → WalksTake walks fault → ZonesShow setting fault → WalksShow setting walks fault
-shown setting (walk ∷ []) (faults.Lame cut) take hold = take
 shown setting (walk ∷ []) (faults.Differs cut) take hold = record { refers = take; zones = hold }
 shown setting (walk ∷ []) (faults.NoGlue cut) take hold = record { refers = take; wants = hold }
 shown setting (walk ∷ []) (faults.GlueDiffers cut) take hold = record { refers = take; glue = hold }
 shown setting (walk ∷ []) (faults.Cyclic cut) take hold = record { refers = take; depends = hold }
-shown setting (walk ∷ []) (faults.Limit place) take hold = take
-shown setting (walk ∷ []) (faults.Blackhole place) take hold = take
-shown setting (one ∷ other ∷ []) (faults.Answers class rtype) take hold = take
-shown setting (walk ∷ []) (faults.Overlong place) take hold = take
 shown setting (walk ∷ []) (faults.NoAddress cut) take hold = record { behind = take.behind; ends = take.ends; not_at_most = hold }
-shown setting walks fault take hold = absurd take
+shown setting walks fault take hold = take
+
+-- the fault isn't that answers differ
+abbrev pub IsSingle : Fault → Type 0
+IsSingle fault = (class : Class) (t : RrType) → fault ≡ faults.Answers class t → ⊥
+
+-- no two walks show such a fault
+no_pair : (fault : Fault) (one other : Walk) → IsSingle fault → WalksTake (one ∷ other ∷ []) fault → ⊥
+no_pair (faults.Answers class t) one other single take = single class t refl
+no_pair fault one other single take = take
+
+-- walks that take such a fault are one
+pub alone : (fault : Fault) (walks : List Walk) → IsSingle fault → WalksTake walks fault → (walk : Walk) × (walks ≡ walk ∷ []) × WalksTake (walk ∷ []) fault
+alone fault [] single take = absurd take
+alone fault (walk ∷ []) single take = (walk, refl, take)
+alone fault (one ∷ other ∷ []) single take = absurd (no_pair fault one other single take)
+alone fault (one ∷ other ∷ third ∷ walks) single take = absurd take

@@ -1,5 +1,5 @@
 -- The part of a class tree at or below a name has one size. That at or below the root is the size of the whole tree.
-use Rattle.std.proofs.Common.{◌≡◌, ℕ, ◌+◌, List, [], length, sym, ap, ◌∙◌, subst}
+use Rattle.std.proofs.Common.{◌≡◌, ℕ, ◌+◌, List, length, sym, ap, ◌∙◌, subst}
 use Rattle.dns_data.specs.Name.{Labels, name_cmp}
 use Rattle.dns_data.proofs.NameOrder.{names_total}
 use Rattle.dns_data.proofs.OrderedLists.{same_rising}

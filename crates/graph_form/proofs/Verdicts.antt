@@ -27,16 +27,6 @@ use Rattle.graph_form.specs.declared.report.Seen.{Seen}
 use Rattle.graph_form.proofs.FirstTypes.{fault_itself}
 use Rattle.graph_form.proofs.Paths.{same_item}
 use Rattle.graph_form.proofs.Places.{place_of_item}
-use Rattle.graph_form.proofs.ShownKinds.{none_is_more}
-
--- ---- the last of a list
-
--- the last items of equal lists are equal
-pub one_last : {A : Type 0} (xs ys : List A) (x y : A) → xs ++ x ∷ [] ≡ ys ++ y ∷ [] → x ≡ y
-one_last [] [] x y e = cc
-one_last [] (z ∷ ys) x y e = let none : [] ≡ ys ++ y ∷ [] = cc in absurd (none_is_more ys y none)
-one_last (z ∷ xs) [] x y e = let none : [] ≡ xs ++ x ∷ [] = cc in absurd (none_is_more xs x none)
-one_last (w ∷ xs) (z ∷ ys) x y e = let rest : xs ++ x ∷ [] ≡ ys ++ y ∷ [] = cc in one_last xs ys x y rest
 
 -- ---- lists that are put behind another, one after the other
 

@@ -1,19 +1,26 @@
 -- The branches of a graph, each with its state and the first type that goes its way, and what a function of a branch gives
 -- over the whole graph.
-use Rattle.std.specs.Prelude.{List, [], map}
+use Rattle.std.specs.Prelude.{List, [], map, Option, Some}
 use Rattle.std.specs.List.{find, flat_map}
 use Rattle.std.specs.Option.{option_map_or}
 use Rattle.dns_data.specs.RrType.{types}
 use Rattle.dns_data.specs.TypeSet.{has_bit}
 use Rattle.dns_data.specs.declared.rr_type.RrType.{RrType}
 use Rattle.net_model.specs.declared.fault.Fault.{Fault}
+use Rattle.net_model.specs.declared.walk.Hop.{Hop}
 use Rattle.net_model.specs.declared.walk.State.{State}
 use Rattle.graph_form.specs.Graph.{PlainGraph}
 use Rattle.graph_form.specs.declared.branches.TypedBranch.{TypedBranch}
 use Rattle.graph_form.specs.declared.node.Arm.{Arm}
 use Rattle.graph_form.specs.declared.node.Branch.{Branch}
+use Rattle.graph_form.specs.declared.node.Branch.TheVariants.{Go, End}
 use Rattle.graph_form.specs.declared.node.Node.{Node}
 use Rattle.graph_form.specs.declared.report.Seen.{Seen}
+
+-- the hop by which the branch goes on or ends
+abbrev pub hop_of : Branch → Option Hop
+hop_of (Go hop to) = Some hop
+hop_of (End hop leaf) = hop
 
 -- a branch of a state, with a type that goes its way
 pub record PlainBranch : Type 0 where

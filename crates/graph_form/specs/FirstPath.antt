@@ -14,11 +14,13 @@ use Rattle.net_model.specs.declared.fault.Fault.TheVariants as faults
 use Rattle.net_model.specs.declared.place.Cut.{Cut}
 use Rattle.net_model.specs.declared.place.Place.{Place}
 use Rattle.net_model.specs.declared.walk.Hop.{Hop}
-use Rattle.net_model.specs.declared.walk.Hop.TheVariants.{Refer, Rewrite}
+use Rattle.net_model.specs.declared.walk.Hop.TheVariants.{Refer}
 use Rattle.net_model.specs.declared.walk.Leaf.{Leaf}
 use Rattle.net_model.specs.declared.walk.Leaf.TheVariants as leaves
 use Rattle.net_model.specs.declared.walk.State.{State}
 use Rattle.net_model.specs.declared.walk.Walk.{Walk}
+use Rattle.graph_form.specs.Branches.{hop_of}
+use Rattle.graph_form.specs.EndFaults.{branch_fault}
 use Rattle.graph_form.specs.Graph.{HasBranch, PlainGraph, branches_of, path_along}
 use Rattle.graph_form.specs.declared.first_path.Onward.{Onward}
 use Rattle.graph_form.specs.declared.first_path.Turn.{Turn}
@@ -44,53 +46,37 @@ answer_eq leaves.NxDomain leaves.NxDomain = true
 answer_eq a b = false
 
 -- the hop is the referral to the name server
-abbrev pub is_referral : Cut → Hop → Bool
-is_referral cut (Refer other) = cut_eq cut other
-is_referral cut (Rewrite place by_dname to) = false
+abbrev pub is_referral : Cut → Option Hop → Bool
+is_referral cut (Some (Refer other)) = cut_eq cut other
+is_referral cut hop = false
 
--- an end with this hop is behind that referral
-abbrev pub is_behind : Cut → Option Hop → Bool
-is_behind cut hop = option_map_or (is_referral cut) hop false
-
--- a branch that goes on by the hop shows the fault, whatever comes behind it
-abbrev pub hop_shows : Fault → Hop → Bool
-hop_shows (faults.Differs cut) hop = is_referral cut hop
-hop_shows (faults.NoGlue cut) hop = is_referral cut hop
-hop_shows (faults.GlueDiffers cut) hop = is_referral cut hop
-hop_shows (faults.Cyclic cut) hop = is_referral cut hop
-hop_shows fault hop = false
-
--- a leaf is that of the fault
-abbrev pub leaf_shows : Fault → Leaf → Bool
-leaf_shows (faults.Lame cut) (leaves.Lame ns) = name_eq cut.ns ns
-leaf_shows (faults.Limit place) (leaves.Limit other) = place_eq place other
-leaf_shows (faults.Blackhole place) leaves.NxDomain = true
-leaf_shows (faults.Overlong place) (leaves.Overlong other) = place_eq place other
-leaf_shows (faults.NoAddress cut) (leaves.NoAddress ns) = name_eq cut.ns ns
-leaf_shows fault leaf = false
+-- the two are one fault, which an end shows
+abbrev pub is_fault : Fault → Fault → Bool
+is_fault (faults.Lame cut) (faults.Lame other) = cut_eq cut other
+is_fault (faults.NoAddress cut) (faults.NoAddress other) = cut_eq cut other
+is_fault (faults.Limit place) (faults.Limit other) = place_eq place other
+is_fault (faults.Blackhole place) (faults.Blackhole other) = place_eq place other
+is_fault (faults.Overlong place) (faults.Overlong other) = place_eq place other
+is_fault fault other = false
 
 -- an authoritative leaf in which none of the walks ends
 abbrev pub is_new_answer : List Walk → Leaf → Bool
 is_new_answer walks leaf = is_authoritative leaf && list_all (λ walk. not (answer_eq walk.leaf leaf)) walks
 
--- A branch by which a state ends shows the fault. Of differing answers it shows one that none of the walks has.
-abbrev pub end_shows : Fault → List Walk → Option Place → Option Hop → Leaf → Bool
-end_shows (faults.Lame cut) walks last hop leaf = is_behind cut hop && leaf_shows (faults.Lame cut) leaf
-end_shows (faults.Differs cut) walks last hop leaf = is_behind cut hop
-end_shows (faults.NoGlue cut) walks last hop leaf = is_behind cut hop
-end_shows (faults.GlueDiffers cut) walks last hop leaf = is_behind cut hop
-end_shows (faults.Cyclic cut) walks last hop leaf = is_behind cut hop
-end_shows (faults.Limit place) walks last hop leaf = leaf_shows (faults.Limit place) leaf
-end_shows (faults.Blackhole place) walks last hop leaf =
-    option_map_or (place_eq place) last false && leaf_shows (faults.Blackhole place) leaf
-end_shows (faults.Answers class rtype) walks last hop leaf = is_new_answer walks leaf
-end_shows (faults.Overlong place) walks last hop leaf = leaf_shows (faults.Overlong place) leaf
-end_shows (faults.NoAddress cut) walks last hop leaf = is_behind cut hop && leaf_shows (faults.NoAddress cut) leaf
+-- the branch ends in such a leaf
+abbrev pub ends_anew : List Walk → Branch → Bool
+ends_anew walks (Go hop to) = false
+ends_anew walks (End hop leaf) = is_new_answer walks leaf
 
--- the branch of a state shows the fault
+-- The branch of a state shows the fault: by its referral, whatever comes behind it, or as an end. Of differing answers it
+-- shows one that none of the walks has.
 abbrev pub branch_shows : Fault → List Walk → State → Branch → Bool
-branch_shows fault walks state (Go hop to) = hop_shows fault hop
-branch_shows fault walks state (End hop leaf) = end_shows fault walks state.last hop leaf
+branch_shows (faults.Differs cut) walks state branch = is_referral cut (hop_of branch)
+branch_shows (faults.NoGlue cut) walks state branch = is_referral cut (hop_of branch)
+branch_shows (faults.GlueDiffers cut) walks state branch = is_referral cut (hop_of branch)
+branch_shows (faults.Cyclic cut) walks state branch = is_referral cut (hop_of branch)
+branch_shows (faults.Answers class rtype) walks state branch = ends_anew walks branch
+branch_shows fault walks state branch = option_map_or (λ found. is_fault found fault) (branch_fault state branch) false
 
 -- ---- paths that take such a branch
 

@@ -1,5 +1,6 @@
 pub use Rattle.net_model.specs.Walk
 pub mod Branches
+pub mod EndFaults
 pub mod FirstFaults
 pub mod FirstPath
 pub mod Graph

@@ -2,6 +2,7 @@
 
 ghost use Rattle.std.specs.Prelude.{◌≡◌};
 ghost use Rattle.std.specs.Option.{option_copied};
+ghost use Rattle.graph_form.specs.Branches.{hop_of};
 ghost use Rattle.graph_form.specs.FirstPath.{node_behind};
 ghost use Rattle.graph_form.specs.Graph.{arm_of, branches_of};
 
@@ -56,6 +57,19 @@ impl Node {
 }
 
 impl Branch {
+    /// The hop by which the branch goes on or ends, or `None`. It takes no memory.
+    pub fn hop(&self) -> Option<&Hop>
+        ensures { option_copied result ≡ hop_of self.now }
+    {
+        match self {
+            Branch::Go { hop, .. } => Some(hop.get()),
+            Branch::End { hop, .. } => match hop {
+                Some(hop) => Some(hop.get()),
+                None => None,
+            },
+        }
+    }
+
     /// The number of the node that the branch goes to, or `None` at an end.
     pub(crate) fn node_behind(&self) -> Option<u32>
         ensures { result ≡ node_behind self.now }

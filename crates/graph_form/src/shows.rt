@@ -2,68 +2,55 @@
 
 ghost use Rattle.std.specs.Prelude.{◌≡◌, ◌↔◌, true, false, not};
 ghost use Rattle.std.specs.List.{list_all};
-ghost use Rattle.std.specs.Option.{option_map_or};
+ghost use Rattle.std.specs.Option.{option_copied, option_map_or};
 ghost use Rattle.net_model.specs.Shown.{is_authoritative};
+ghost use Rattle.graph_form.specs.EndFaults as end_faults;
 ghost use Rattle.graph_form.specs.FirstPath as first_path;
 
+use crate::end_faults::branch_fault;
 use crate::node::Branch;
-use dns_data::Boxed;
-use net_model::{Cut, Fault, Hop, Leaf, Place, State, Walk};
+use net_model::{Cut, Fault, Hop, Leaf, State, Walk};
 
-/// Whether the branch of the state shows the fault: an end in which a walk shows it, or a referral by which a walk shows
-/// it whatever comes behind. Of differing answers an end shows one that none of the walks has.
+/// Whether the branch of the state shows the fault: by its referral, whatever comes behind it, or as an end. Of differing
+/// answers an end shows one that none of the walks has.
 pub(crate) fn branch_shows(fault: &Fault, walks: &[Walk], state: &State, branch: &Branch) -> bool
     ensures { result ≡ first_path.branch_shows fault.now walks.now state.now branch.now }
 {
+    match fault {
+        Fault::Differs(cut) | Fault::NoGlue(cut) | Fault::GlueDiffers(cut) | Fault::Cyclic(cut) =>
+            is_referral(cut, branch.hop()),
+        Fault::Answers(_, _) => ends_anew(walks, branch),
+        _ => ends_with(fault, state, branch),
+    }
+}
+
+/// Whether the hop is the referral to the name server.
+fn is_referral(cut: &Cut, hop: Option<&Hop>) -> bool
+    ensures { result ≡ first_path.is_referral cut.now (option_copied hop.entry) }
+{
+    match hop {
+        Some(Hop::Refer(other)) => cut == other,
+        _ => false,
+    }
+}
+
+/// Whether the branch is an end that shows the fault.
+fn ends_with(fault: &Fault, state: &State, branch: &Branch) -> bool
+    ensures { result ≡ option_map_or (λ found. first_path.is_fault found fault.now) (end_faults.branch_fault state.now branch.now) false }
+{
+    match branch_fault(state, branch) {
+        Some(end) => end.is(fault),
+        None => false,
+    }
+}
+
+/// Whether the branch ends in an authoritative leaf in which none of the walks does.
+fn ends_anew(walks: &[Walk], branch: &Branch) -> bool
+    ensures { result ≡ first_path.ends_anew walks.now branch.now }
+{
     match branch {
-        Branch::Go { hop, .. } => hop_shows(fault, hop.get()),
-        Branch::End { hop, leaf } => end_shows(fault, walks, &state.last, hop, leaf.get()),
-    }
-}
-
-/// Whether a walk that goes on by the hop shows the fault.
-fn hop_shows(fault: &Fault, hop: &Hop) -> bool
-    ensures { result ≡ first_path.hop_shows fault.now hop.now }
-{
-    match fault {
-        Fault::Differs(cut) | Fault::NoGlue(cut) | Fault::GlueDiffers(cut) | Fault::Cyclic(cut) =>
-            is_referral(cut, hop),
-        _ => false,
-    }
-}
-
-/// Whether a walk that ends so shows the fault, `last` being the place of its last rewrite.
-fn end_shows(
-    fault: &Fault,
-    walks: &[Walk],
-    last: &Option<Place>,
-    hop: &Option<Boxed<Hop>>,
-    leaf: &Leaf,
-) -> bool
-    ensures { result ≡ first_path.end_shows fault.now walks.now last.now hop.now leaf.now }
-{
-    match fault {
-        Fault::Lame(cut) | Fault::NoAddress(cut) => is_behind(cut, hop) && leaf_shows(fault, leaf),
-        Fault::Differs(cut) | Fault::NoGlue(cut) | Fault::GlueDiffers(cut) | Fault::Cyclic(cut) =>
-            is_behind(cut, hop),
-        Fault::Limit(_) | Fault::Overlong(_) => leaf_shows(fault, leaf),
-        Fault::Blackhole(place) => is_last(place, last) && leaf_shows(fault, leaf),
-        Fault::Answers(_, _) => is_new_answer(walks, leaf),
-    }
-}
-
-/// Whether the leaf is that of the fault.
-fn leaf_shows(fault: &Fault, leaf: &Leaf) -> bool
-    ensures { result ≡ first_path.leaf_shows fault.now leaf.now }
-{
-    match (fault, leaf) {
-        (Fault::Lame(cut), Leaf::Lame(ns)) | (Fault::NoAddress(cut), Leaf::NoAddress(ns)) => {
-            cut.ns == *ns
-        }
-        (Fault::Limit(place), Leaf::Limit(other))
-        | (Fault::Overlong(place), Leaf::Overlong(other)) => place == other,
-        (Fault::Blackhole(_), Leaf::NxDomain) => true,
-        _ => false,
+        Branch::End { leaf, .. } => is_new_answer(walks, leaf.get()),
+        Branch::Go { .. } => false,
     }
 }
 
@@ -100,35 +87,5 @@ pub fn is_same_answer(a: &Leaf, b: &Leaf) -> bool
         (Leaf::Answer(data), Leaf::Answer(other)) => data == other,
         (Leaf::NoData, Leaf::NoData) | (Leaf::NxDomain, Leaf::NxDomain) => true,
         _ => false,
-    }
-}
-
-/// Whether an end with this hop is behind the referral to the name server.
-fn is_behind(cut: &Cut, hop: &Option<Boxed<Hop>>) -> bool
-    ensures { result ≡ first_path.is_behind cut.now hop.now }
-{
-    match hop {
-        Some(hop) => is_referral(cut, hop.get()),
-        None => false,
-    }
-}
-
-/// Whether the hop is the referral to the name server.
-fn is_referral(cut: &Cut, hop: &Hop) -> bool
-    ensures { result ≡ first_path.is_referral cut.now hop.now }
-{
-    match hop {
-        Hop::Refer(other) => cut == other,
-        Hop::Rewrite { .. } => false,
-    }
-}
-
-/// Whether the place is that of the last rewrite.
-fn is_last(place: &Place, last: &Option<Place>) -> bool
-    ensures { result ≡ option_map_or (first_path.place_eq place.now) last.now false }
-{
-    match last {
-        Some(other) => place == other,
-        None => false,
     }
 }

@@ -2,7 +2,6 @@ pub mod EntrySteps
 pub mod FewWalks
 pub mod HopsInside
 pub mod InOrder
-pub mod Lasts
 pub mod ListedWalks
 pub mod NamedQueries
 pub mod OneAnswer

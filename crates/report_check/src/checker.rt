@@ -48,7 +48,7 @@ impl<'h, 'a> Model for Checker<'h, 'a> {
 
 impl<'h, 'a> Checker<'h, 'a> {
     /// What entries are checked by, with these sets of learnt addresses.
-    pub fn new(hosts: &'h Hosts<'a>, rewrites: u32, sets: LearntSets) -> Checker<'h, 'a>
+    pub(crate) fn new(hosts: &'h Hosts<'a>, rewrites: u32, sets: LearntSets) -> Checker<'h, 'a>
         requires { HasLearntNames hosts.now rewrites sets }
         ensures { result ≡ following hosts.entry.now rewrites sets.least }
     {
@@ -61,7 +61,11 @@ impl<'h, 'a> Checker<'h, 'a> {
     }
 
     /// All walks of a query with its type, in order. It is `WalksPassed` where there are more than 10,000.
-    pub fn walks_of(&self, alloc: Global, asked: &EntryQuery) -> Result<List<Walk>, ResolveFault>
+    pub(crate) fn walks_of(
+        &self,
+        alloc: Global,
+        asked: &EntryQuery,
+    ) -> Result<List<Walk>, ResolveFault>
         ensures walks { IfOk result (AreWalks self.now asked.now.query asked.now.rtype) }
         ensures few { OnOk result (HasMoreWalks self.now asked.now.query asked.now.rtype most_walks_followed → ⊥) }
         ensures passed { IsErrOf result ResolveFault.WalksPassed → HasMoreWalks self.now asked.now.query asked.now.rtype most_walks_followed }
@@ -79,7 +83,7 @@ impl<'h, 'a> Checker<'h, 'a> {
     }
 
     /// The faults that a walk of some query shows by itself.
-    pub fn faults_of(&self, alloc: Global, walk: &Walk) -> Result<List<Fault>, NoMemory>
+    pub(crate) fn faults_of(&self, alloc: Global, walk: &Walk) -> Result<List<Fault>, NoMemory>
         requires { (query : Labels) × (rtype : RrType) × IsWalk self.now query rtype walk.now }
         ensures { IfOk result (λ faults. (fault : FaultValue) → Contains faults fault ↔ WalksShow (with_sets self.now) (walk.now ∷ []) fault) }
     {
@@ -87,7 +91,7 @@ impl<'h, 'a> Checker<'h, 'a> {
     }
 
     /// The class of the query.
-    pub fn class_of(&mut self, alloc: Global, query: &Name) -> Result<Class, NoMemory>
+    pub(crate) fn class_of(&mut self, alloc: Global, query: &Name) -> Result<Class, NoMemory>
         ensures class { IfOk result (IsClassOf (ground_of self.old.config) query.now) }
         ensures one { IfOk result (λ class. (other : ClassValue) → IsClassOf (ground_of self.old.config) query.now other → other ≡ class) }
         ensures kept { self.new ≡ self.old }
@@ -96,7 +100,7 @@ impl<'h, 'a> Checker<'h, 'a> {
     }
 
     /// Whether the query is the representative of its class.
-    pub fn represents(&mut self, alloc: Global, query: &Name) -> Result<bool, NoMemory>
+    pub(crate) fn represents(&mut self, alloc: Global, query: &Name) -> Result<bool, NoMemory>
         ensures answer { IfOk result (λ answer. (answer ≡ true) ↔ Represents self.old.config query.now) }
         ensures kept { self.new ≡ self.old }
     {

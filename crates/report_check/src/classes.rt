@@ -36,7 +36,7 @@ impl<'a> Model for Classes<'a> {
 
 impl<'a> Classes<'a> {
     /// The classes of a configuration. No graph is made yet.
-    pub fn new(config: &'a Config) -> Classes<'a>
+    pub(crate) fn new(config: &'a Config) -> Classes<'a>
         ensures { result ≡ config.entry.now }
     {
         Classes {
@@ -46,7 +46,7 @@ impl<'a> Classes<'a> {
     }
 
     /// The class of the name.
-    pub fn class_of(&mut self, alloc: Global, query: &Name) -> Result<Class, NoMemory>
+    pub(crate) fn class_of(&mut self, alloc: Global, query: &Name) -> Result<Class, NoMemory>
         ensures class { IfOk result (IsClassOf (ground_of self.old) query.now) }
         ensures one { IfOk result (λ class. (other : ClassValue) → IsClassOf (ground_of self.old) query.now other → other ≡ class) }
         ensures kept { self.new ≡ self.old }
@@ -58,7 +58,7 @@ impl<'a> Classes<'a> {
     }
 
     /// Whether the name is the representative of its class.
-    pub fn represents(&mut self, alloc: Global, query: &Name) -> Result<bool, NoMemory>
+    pub(crate) fn represents(&mut self, alloc: Global, query: &Name) -> Result<bool, NoMemory>
         ensures answer { IfOk result (λ answer. (answer ≡ true) ↔ Represents self.old query.now) }
         ensures kept { self.new ≡ self.old }
     {

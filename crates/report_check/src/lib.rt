@@ -1,5 +1,5 @@
 //! A report checked entry by entry, by a second way: with walks alone, and without the graphs and the workers that
-//! made it. With many top servers, servers' names that rest are looked up as a check does (resting_names).
+//! made it. Servers' names that rest are looked up as a check does (zone_lookup).
 //!
 //! The layer above may rest on this: `check_report` answers what `IsChecked` says of the configuration and the octets.
 //! A yes means that the walks of each entry are walks of its query, and show its fault; that no fault is missing it

@@ -101,13 +101,6 @@ module _ (setting : Setting) (query : Labels) (class : Class) (represents : Bool
 
 -- ---- the search for two ends that differ
 
--- an authoritative leaf tells another thing than a leaf that tells nothing
-pub tells_other_than_none : (leaf : Leaf) → is_authoritative leaf ≡ true → is_other leaves.Outside leaf ≡ true
-tells_other_than_none (leaves.Answer rdata) e = refl
-tells_other_than_none leaves.NoData e = refl
-tells_other_than_none leaves.NxDomain e = refl
-tells_other_than_none leaf e = cc
-
 -- a leaf that tells another thing is authoritative
 pub authoritative : (than leaf : Leaf) → is_other than leaf ≡ true → is_authoritative leaf ≡ true
 authoritative than leaf e = (and_parts (is_authoritative leaf) (not (answer_eq than leaf)) e).0

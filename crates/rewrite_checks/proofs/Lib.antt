@@ -1,4 +1,3 @@
-pub mod EndsShown
 pub mod AnswersShown
 pub mod Wholly
 pub mod Laws

@@ -1,48 +1,72 @@
 -- What was collected, each with its first type, are the faults that the query shows.
 use Rattle.std.proofs.Common.{◌≡◌, Bool, true, List, [], ◌∷◌, ◌++◌, refl, sym, ap, ◌∙◌, subst, inl, inr, arith}
 use Rattle.std.specs.Prelude.{◌⊎◌, Contains}
+use Rattle.std.specs.List.{flat_map}
 use Rattle.std.proofs.lemmas.List.Elements.{Contains-append_cases, Contains-append_left, Contains-append_right}
 use Rattle.dns_data.specs.Name.{Labels}
 use Rattle.dns_data.specs.RrType.{types}
 use Rattle.dns_data.specs.declared.rr_type.RrType.{RrType}
 use Rattle.dns_data.proofs.Membership.{none_in_nil, has_first, first_or_later}
-use Rattle.graph_form.specs.Branches.{seen_by}
+use Rattle.graph_form.specs.Branches.{PlainBranch, branch_seen, seen_by, typed_branches}
+use Rattle.graph_form.specs.EndFaults.{is_of_end, picked_fault}
 use Rattle.graph_form.specs.Graph.{PlainGraph}
+use Rattle.graph_form.specs.Trails.{ZonesShow}
 use Rattle.graph_form.specs.Verdict.{AreFirstTypes, AreShownOf, IsCovered}
 use Rattle.graph_form.specs.declared.report.Seen.{Seen}
+use Rattle.graph_form.proofs.EndsShown.{end_picked, end_seen, end_shown}
 use Rattle.graph_form.proofs.Reached.{every_type}
 use Rattle.graph_form.proofs.Verdicts.{all_shown_of}
-use Rattle.net_model.specs.Shown.{Shows, with_sets}
+use Rattle.net_model.proofs.OneClass.{one_class}
+use Rattle.net_model.specs.Class.{IsRepresentative}
+use Rattle.net_model.specs.Reading.{ground_of}
+use Rattle.net_model.specs.Shown.{MayShow, Represents, Shows, with_sets}
 use Rattle.net_model.specs.Step.{Setting}
 use Rattle.net_model.specs.declared.class.Class.{Class}
 use Rattle.net_model.specs.declared.fault.Fault.{Fault}
 use Rattle.net_model.specs.declared.fault.Fault.TheVariants as faults
 use Rattle.rewrite_checks.specs.Answers.{Differ, PutsAnswers, answers_of}
-use Rattle.rewrite_checks.specs.Ends.{end_faults}
-use Rattle.rewrite_checks.specs.Rewrites.{IsGraphFor, is_of_rewrites}
+use Rattle.rewrite_checks.specs.Rewrites.{IsGraphFor, is_of_rewrites, is_shown}
 use Rattle.rewrite_checks.proofs.AnswersShown.{differ_shown, shown_differ}
-use Rattle.rewrite_checks.proofs.EndsShown.{OfEnd, candidate_of_end, candidate_shown, shown_collected}
 
 module _ (setting : Setting) (query : Labels) (class : Class) (represents : Bool) (graph : PlainGraph) (for : IsGraphFor setting query class represents graph)
-    (seen shown : List Seen) (puts : PutsAnswers class graph types (seen_by (end_faults represents) graph) seen) (firsts : AreFirstTypes seen shown) where
-  of_rewrites : (fault : Fault) → OfEnd fault → is_of_rewrites fault ≡ true
-  of_rewrites (faults.Limit place) of = refl
-  of_rewrites (faults.Blackhole place) of = refl
-  of_rewrites (faults.Overlong place) of = refl
-  of_rewrites fault of = absurd of
+    (seen shown : List Seen) (puts : PutsAnswers class graph types (seen_by (picked_fault (is_shown represents)) graph) seen) (firsts : AreFirstTypes seen shown) where
+  -- ---- faults of ends
 
-  -- each that was collected is of these kinds, and shown
+  abbrev Ends : List Seen
+  Ends = seen_by (picked_fault (is_shown represents)) graph
+
+  of_rewrites : (b : Bool) (fault : Fault) → is_shown b fault ≡ true → is_of_rewrites fault ≡ true
+  of_rewrites b (faults.Limit place) e = refl
+  of_rewrites b (faults.Blackhole place) e = refl
+  of_rewrites b (faults.Overlong place) e = refl
+  of_rewrites b fault e = cc
+
+  -- what is picked the query may show, and the zones have no say
+  holds : (rtype : RrType) (fault : Fault) → is_shown represents fault ≡ true → MayShow setting.config query rtype fault × ZonesShow (with_sets setting) fault
+  holds rtype (faults.Limit place) e = (tt, tt)
+  holds rtype (faults.Blackhole place) e = (tt, tt)
+  holds rtype (faults.Overlong place) e = ((class, for.of_class, for.represents_it.0 e), tt)
+  holds rtype fault e = cc
+
+  -- a query that may show an overlong rewrite represents its class
+  represents_its : Represents setting.config query → represents ≡ true
+  represents_its (other, is_class, stands) =
+      for.represents_it.1
+      (subst (λ c. IsRepresentative (ground_of setting.config) c query) (one_class (ground_of setting.config) query class other for.of_class is_class) stands)
+
+  -- ---- each that was collected is of these kinds, and shown
+
   record IsRight (entry : Seen) : Type 0 where
     pub kind : is_of_rewrites entry.fault ≡ true
     pub shows : Shows (with_sets setting) query entry.rtype entry.fault
 
   right : (entry : Seen) → Contains seen entry → IsRight entry
   right entry has = by (puts.from entry has) where
-    by : Contains (seen_by (end_faults represents) graph) entry ⊎ ((entry ≡ answers_of class entry.rtype) × Differ graph entry.rtype) → IsRight entry
+    by : Contains Ends entry ⊎ ((entry ≡ answers_of class entry.rtype) × Differ graph entry.rtype) → IsRight entry
     by (inl ends) =
         record {
-          kind = of_rewrites entry.fault (candidate_of_end setting query class represents graph for entry ends);
-          shows = candidate_shown setting query class represents graph for entry ends;
+          kind = of_rewrites represents entry.fault (end_picked (is_shown represents) (with_sets setting) query graph for.is_graph for.exact entry ends);
+          shows = end_shown (is_shown represents) (with_sets setting) query graph for.is_graph for.exact holds entry ends;
         }
     by (inr (is, differ)) =
         let fault : entry.fault ≡ faults.Answers class entry.rtype = ap (λ (s : Seen). s.fault) is in
@@ -51,17 +75,19 @@ module _ (setting : Setting) (query : Labels) (class : Class) (represents : Bool
           shows = subst (Shows (with_sets setting) query entry.rtype) (sym fault) (differ_shown setting query class represents graph for entry.rtype differ);
         }
 
-  -- each that is shown was collected
-  collected_end : (rtype : RrType) (fault : Fault) → OfEnd fault → Shows (with_sets setting) query rtype fault → IsCovered seen (record { fault = fault; rtype = rtype })
-  collected_end rtype fault of shows =
-      let is = shown_collected setting query class represents graph for rtype fault of shows in
+  -- ---- each that is shown was collected
+
+  of_end : (rtype : RrType) (fault : Fault) → is_of_end fault ≡ true → (MayShow setting.config query rtype fault → is_shown represents fault ≡ true)
+      → Shows (with_sets setting) query rtype fault → IsCovered seen (record { fault = fault; rtype = rtype })
+  of_end rtype fault of picks shows =
+      let is = end_seen (is_shown represents) (with_sets setting) query graph for.is_graph for.exact rtype fault of (λ may zones. picks may) shows in
       record { by = is.by; has = puts.kept is.by is.has; fault_is = is.fault_is; not_later = is.not_later }
 
   collected : (rtype : RrType) (fault : Fault) → is_of_rewrites fault ≡ true → Shows (with_sets setting) query rtype fault
       → IsCovered seen (record { fault = fault; rtype = rtype })
-  collected rtype (faults.Limit place) kind shows = collected_end rtype (faults.Limit place) tt shows
-  collected rtype (faults.Blackhole place) kind shows = collected_end rtype (faults.Blackhole place) tt shows
-  collected rtype (faults.Overlong place) kind shows = collected_end rtype (faults.Overlong place) tt shows
+  collected rtype (faults.Limit place) kind shows = of_end rtype (faults.Limit place) refl (λ may. refl) shows
+  collected rtype (faults.Blackhole place) kind shows = of_end rtype (faults.Blackhole place) refl (λ may. refl) shows
+  collected rtype (faults.Overlong place) kind shows = of_end rtype (faults.Overlong place) refl represents_its shows
   collected rtype (faults.Answers other t) kind shows =
       let of = shown_differ setting query class represents graph for rtype other t shows in
       record {
@@ -120,10 +146,11 @@ module _ (class : Class) (graph : PlainGraph) where
 
 -- the faults seen at ends, then those of differing answers, with their first types, are the faults of rewrites that the
 -- query shows
-pub wholly : (class : Class) (represents : Bool) (graph : PlainGraph) (none ends seen shown : List Seen) → none ≡ []
-    → ends ≡ none ++ seen_by (end_faults represents) graph → PutsAnswers class graph types ends seen → AreFirstTypes seen shown
+pub wholly : (class : Class) (represents : Bool) (graph : PlainGraph) (none ends seen shown : List Seen) (branches : List PlainBranch) → none ≡ []
+    → branches ≡ typed_branches graph → ends ≡ none ++ flat_map (branch_seen (picked_fault (is_shown represents))) branches
+    → PutsAnswers class graph types ends seen → AreFirstTypes seen shown
     → (setting : Setting) (query : Labels) → IsGraphFor setting query class represents graph → AreShownOf (with_sets setting) query is_of_rewrites shown
-wholly class represents graph none ends seen shown is_none put puts firsts setting query for =
-    let all : List Seen = seen_by (end_faults represents) graph in
-    let first : ends ≡ all = put ∙ ap (λ (xs : List Seen). xs ++ all) is_none in
+wholly class represents graph none ends seen shown branches is_none all put puts firsts setting query for =
+    let put_by : List PlainBranch → List Seen = flat_map (branch_seen (picked_fault (is_shown represents))) in
+    let first : ends ≡ seen_by (picked_fault (is_shown represents)) graph = put ∙ (ap (λ (xs : List Seen). xs ++ put_by branches) is_none ∙ ap put_by all) in
     are_shown setting query class represents graph for seen shown (subst (λ (xs : List Seen). PutsAnswers class graph types xs seen) first puts) firsts

@@ -18,6 +18,13 @@ is_of_rewrites (Answers class rtype) = true
 is_of_rewrites (Overlong place) = true
 is_of_rewrites fault = false
 
+-- the fault of an end is shown by the query: an overlong rewrite if it represents its class
+abbrev pub is_shown : Bool → Fault → Bool
+is_shown represents (Limit place) = true
+is_shown represents (Blackhole place) = true
+is_shown represents (Overlong place) = represents
+is_shown represents fault = false
+
 -- the graph is that of the query, which is of this class, and maybe its representative
 pub record IsGraphFor (setting : Setting) (query : Labels) (class : Class) (represents : Bool) (graph : PlainGraph) : Type 0 where
   pub is_graph : IsGraphOf setting query graph

@@ -8,7 +8,6 @@
 #![tactic(auto)]
 
 mod answers;
-mod ends;
 mod rewrites;
 
 pub use rewrites::rewrite_faults;

@@ -15,14 +15,31 @@ ghost use Rattle.net_model.specs.Walk.{IsWalk};
 ghost use Rattle.net_model.specs.declared.fault.Fault.TheVariants.{Limit, Overlong};
 ghost use Rattle.net_model.specs.declared.place.Place.{Place};
 ghost use Rattle.net_model.specs.declared.walk.Walk.{Walk};
-ghost use Rattle.rewrite_checks.specs.Rewrites.{IsGraphFor, is_of_rewrites};
+ghost use Rattle.rewrite_checks.specs.Rewrites.{IsGraphFor, is_of_rewrites, is_shown};
 
 use crate::answers::put_answers;
-use crate::ends::put_ends;
 use dns_data::{List, NoMemory};
-use graph_form::{Graph, Seen, first_types};
+use graph_form::{EndFault, Graph, PicksFaults, Seen, first_types, put_end_faults, typed_branches};
 use net_model::Class;
 use std::alloc::Global;
+
+/// Picks the rewrite limits, the blackholes, and the overlong rewrites if the query represents its class.
+#[derive(Clone, Copy)]
+struct RewriteFaults {
+    represents: bool,
+}
+
+impl PicksFaults for RewriteFaults {
+    ghost picked = { λ picker. is_shown picker.represents };
+
+    fn picks(&self, fault: &EndFault<'_>) -> bool {
+        match fault {
+            EndFault::Limit(_) | EndFault::Blackhole(_) => true,
+            EndFault::Overlong(_) => self.represents,
+            EndFault::Lame(_) | EndFault::NoAddress(_) => false,
+        }
+    }
+}
 
 /// The rewrite limits, blackholes, differing answers and overlong rewrites that the query of a graph shows, each once and
 /// with its first type, in fault order. The class is that of the query, and `represents` tells whether the query is its
@@ -45,7 +62,13 @@ pub fn rewrite_faults(
         → (place : Place) × RewritesAt (hops_round walk back) place × Contains (map (λ seen. seen.fault) shown) (Limit place)) }
 {
     let mut seen = List::new(alloc);
-    put_ends(alloc, represents, graph, &mut seen)?;
+    let branches = typed_branches(alloc, graph)?;
+    put_end_faults(
+        alloc,
+        branches.as_slice(),
+        &RewriteFaults { represents },
+        &mut seen,
+    )?;
     put_answers(alloc, class, graph, &mut seen)?;
     // Named, since the proof speaks of the list that comes where memory suffices.
     let shown = first_types(alloc, seen)?;

@@ -1,5 +1,5 @@
 use Rattle.delegation_checks.proofs.LookedInto.{AreSoFar}
-use Rattle.delegation_checks.proofs.referral_faults.faults_in_order.Given as goal
+use Rattle.delegation_checks.proofs.cut_faults.faults_in_order.Given as goal
 
 -- those of the referrals so far
 abbrev pub invariant-loop-place : goal.invariant-loop-place

@@ -11,7 +11,7 @@ use Rattle.net_model.specs.FaultOrder.{cut_cmp}
 use Rattle.net_model.specs.declared.fault.Fault.TheVariants.{Lame}
 use Rattle.net_model.specs.declared.place.Cut.{Cut}
 use Rattle.delegation_checks.specs.declared.referrals.Met.{Met}
-use Rattle.delegation_checks.proofs.referral_faults.comes_again.Goals as goal
+use Rattle.delegation_checks.proofs.cut_faults.comes_again.Goals as goal
 
 -- cuts that tie are one
 one_cut : (a b : Cut) (order : Ordering) → order ≡ cut_cmp a b → (ordering_index order == 1) ≡ true → a ≡ b

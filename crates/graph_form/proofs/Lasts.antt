@@ -1,7 +1,7 @@
 -- The last item of a list.
 use Rattle.std.proofs.Common.{◌≡◌, ◌-◌, suc, List, [], ◌∷◌, ◌++◌, length, slice_get, Some, refl, ap, ◌∙◌, subst, arith}
 use Rattle.std.proofs.lemmas.List.{length-append}
-use Rattle.report_check.specs.WalkFaults.{last_of}
+use Rattle.graph_form.specs.EndFaults.{last_of}
 
 -- a list with a last item is the items before it and that one
 pub before_last : {X : Type 0} (xs : List X) (x : X) → last_of xs ≡ Some x → (before : List X) × (xs ≡ before ++ x ∷ [])

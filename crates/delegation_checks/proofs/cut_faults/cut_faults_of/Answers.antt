@@ -1,10 +1,10 @@
 use Rattle.std.proofs.Common.{List, subst}
 use Rattle.std.specs.Prelude.{map}
 use Rattle.std.proofs.lemmas.Result.{IfOk-weaker}
-use Rattle.delegation_checks.specs.Met.{AreOfReferrals, is_met}
+use Rattle.delegation_checks.specs.Referrals.{AreOfReferrals, is_met}
 use Rattle.delegation_checks.specs.declared.referrals.Met.{Met}
 use Rattle.delegation_checks.proofs.LookedInto.{in_any_order}
-use Rattle.delegation_checks.proofs.referral_faults.faults_of.Goals as goal
+use Rattle.delegation_checks.proofs.cut_faults.cut_faults_of.Goals as goal
 
 pub returns : goal.returns
 returns c =
