@@ -14,10 +14,11 @@ use Rattle.net_model.specs.declared.config.Server.{Server}
 use Rattle.net_model.specs.declared.config.Zone.{Zone}
 use Rattle.net_model.specs.Reading.{Ground, Redirection, redirection_of, redirections_of, zones, records, origins_and_owners, ground_of, joined_ground}
 use Rattle.net_model.proofs.JoinedNames.{front_is_base, base_is_front, root_is_base, above_is_base, owner_is_base, alone_is_own}
+use Rattle.label_graph.specs.declared.pair.Pair.{Pair}
 use Rattle.label_graph.specs.Base.{IsInConfig, server_redirections, zone_redirections}
 use Rattle.label_graph.specs.Graphs.{SomeItem}
 use Rattle.label_graph.specs.LiveSet.{HavePrefixes, IsClosed}
-use Rattle.label_graph.specs.Pairs.{AreSame}
+use Rattle.label_graph.specs.Pairs.{redirection, ground_with, AreSame}
 use Rattle.label_graph.specs.Targets.{IsPrefixFrom}
 use Rattle.label_graph.proofs.Passing.{some_seen, some_flat}
 
@@ -166,6 +167,38 @@ module _ {X : Type 0} (config_of : X → Config) (configs : List X) where
         λ has. elim (put.0 has) [ inl nothing ↦ absurd (never nothing) | inr some ↦ seen.0 some ],
         λ some. put.1 (inr (seen.1 some)),
       )
+
+-- the root and the base names of a configuration, with its redirections, are its ground
+pub own_base : (config : Config) (root names : List Labels) (none pairs dnames : List Pair)
+    → root ≡ [] ∷ [] → none ≡ [] → dnames ≡ pairs
+    → ((name : Labels) → Contains names name ↔ (Contains root name ⊎ IsInConfig name config))
+    → ((pair : Redirection) → Contains (map redirection pairs) pair
+    ↔ (Contains (map redirection none) pair ⊎ Contains (redirections_of config) pair))
+    → AreSame (ground_with names dnames) (ground_of config)
+own_base config root names none pairs dnames root_is none_is dnames_are of_config of_pairs =
+    subst (AreSame (ground_with names dnames)) (alone_is_own config)
+    (same_as_joined (config ∷ []) [] (ground_with names dnames)
+    (λ name. let are = subst (λ (l : List Labels). Contains names name ↔ (Contains l name ⊎ IsInConfig name config)) root_is (of_config name) in (
+      λ has. elim (are.0 has) [ inl first ↦ inl (inl first) | inr inside ↦ inl (inr (config, has_first config [], inside)) ],
+      λ either. elim either [
+        | inl (inl first) ↦ are.1 (inl first)
+        | inl (inr (one, has, inside)) ↦ elim (first_or_later config [] one has) [
+          | inl same ↦ are.1 (inr (subst (IsInConfig name) (sym same) inside))
+          | inr never ↦ absurd (none_in_nil one never)
+        ]
+        | inr (one, has, front) ↦ absurd (none_in_nil one has)
+      ],
+    ))
+    (λ pair. let are = subst (λ (l : List Pair). Contains (map redirection l) pair ↔ (Contains (map redirection none) pair ⊎ Contains (redirections_of config) pair)) (sym dnames_are) (of_pairs pair) in (
+      λ has. elim (are.0 has) [
+        | inl nothing ↦ absurd (none_in_nil pair (subst (λ (l : List Pair). Contains (map redirection l) pair) none_is nothing))
+        | inr inside ↦ (config, has_first config [], inside)
+      ],
+      λ (one, has, inside). elim (first_or_later config [] one has) [
+        | inl same ↦ are.1 (inr (subst (λ (x : Config). Contains (redirections_of x) pair) (sym same) inside))
+        | inr never ↦ absurd (none_in_nil one never)
+      ],
+    )))
 
 -- the redirections of all servers are those of the configuration
 pub base_redirections : (config : Config) (redirection : Redirection)

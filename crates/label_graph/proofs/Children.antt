@@ -12,7 +12,7 @@ use Rattle.dns_data.proofs.NameOrder.{under_label}
 use Rattle.label_graph.specs.Graphs.{HasChild, AreLabelsBelow}
 use Rattle.label_graph.specs.LiveSet.{name_at}
 use Rattle.label_graph.specs.NameTree.{IsNextBelow, octets_from}
-use Rattle.label_graph.proofs.Saturating.{same_last}
+use Rattle.label_graph.proofs.NamePlaces.{same_last}
 use Rattle.label_graph.proofs.TargetLinks.{place_among, among_place}
 
 -- the octets of a name behind those of the one above and its last label's length are those of that label

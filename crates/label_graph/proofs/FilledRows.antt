@@ -46,12 +46,18 @@ filled_set rows place count row within =
     ap (λ (n : ℕ). slice_set rows place row ++ empty (count - n)) (length-set rows place row)
     ∙ sym (set-append_left rows (empty (count - length rows)) place row within)
 
--- one place more stands in the row of a place
-pub filled_put : (rows after kept : List (List ℕ)) (place other count : ℕ) → IsFilledOn rows place after → length rows ≤ count → place < count
-    → place < length after → kept ≡ slice_set after place (get_or after place [] ++ other ∷ [])
-    → all_rows kept count ≡ slice_set (all_rows rows count) place (get_or (all_rows rows count) place [] ++ other ∷ [])
-filled_put rows after kept place other count filled within low has is =
-    ap (λ (l : List (List ℕ)). all_rows l count) is
-    ∙ filled_set after place count (get_or after place [] ++ other ∷ []) has
-    ∙ ap (λ (row : List ℕ). slice_set (all_rows after count) place (row ++ other ∷ [])) (sym (get_or_append_left after (empty (count - length after)) [] place has))
-    ∙ ap (λ (l : List (List ℕ)). slice_set l place (get_or l place [] ++ other ∷ [])) (filled_same rows after place count filled within low)
+module _ (rows after : List (List ℕ)) (place count : ℕ) (filled : IsFilledOn rows place after) (within : length rows ≤ count) (low : place < count)
+    (has : place < length after)
+  where
+    -- the row of the place is as it was
+    pub filled_row : get_or after place [] ≡ get_or (all_rows rows count) place []
+    filled_row =
+        sym (get_or_append_left after (empty (count - length after)) [] place has)
+        ∙ ap (λ (l : List (List ℕ)). get_or l place []) (filled_same rows after place count filled within low)
+
+    -- another row stands at the place
+    pub filled_put : (kept : List (List ℕ)) (row : List ℕ) → kept ≡ slice_set after place row → all_rows kept count ≡ slice_set (all_rows rows count) place row
+    filled_put kept row is =
+        ap (λ (l : List (List ℕ)). all_rows l count) is
+        ∙ filled_set after place count row has
+        ∙ ap (λ (l : List (List ℕ)). slice_set l place row) (filled_same rows after place count filled within low)

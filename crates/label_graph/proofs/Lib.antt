@@ -1,10 +1,12 @@
 pub mod BaseGround
 pub mod Children
 pub mod FilledRows
+pub mod FollowedTargets
+pub mod FoundPlaces
 pub mod GraphSets
 pub mod InOrder
-pub mod KeptLinks
 pub mod NamePlaces
+pub mod LedPlaces
 pub mod LiveNames
 pub mod LiveSets
 pub mod NewFronts
@@ -12,9 +14,8 @@ pub mod NextNames
 pub mod OrderedNames
 pub mod Parents
 pub mod Passing
+pub mod PutPlaces
 pub mod Readings
-pub mod RowItems
 pub mod RowsOfChildren
-pub mod Saturating
 pub mod StandardFacts
 pub mod TargetLinks

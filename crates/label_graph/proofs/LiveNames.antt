@@ -38,13 +38,6 @@ module _ (ground : Ground) (K : Labels → Labels → Type 0) where
   closed_more P Q more base (inl here) = inl (more base here)
   closed_more P Q more base (inr (redirection, among, owner, known)) = inr (redirection, among, more redirection.owner owner, known)
 
-  reached_more : (P Q : Labels → Type 0) → ((base : Labels) → P base → Q base) → (labels base : Labels)
-      → ReachedFrom P labels base → ReachedFrom Q labels base
-  reached_more P Q more [] base is = more base is
-  reached_more P Q more (label ∷ rest) base is =
-      reached_more (Stepped (Closed P) label) (Stepped (Closed Q) label)
-      (λ b step. (step.0, (step.1.0, closed_more P Q more step.1.0 step.1.1, step.1.2))) rest base is
-
   -- what is closed within what is closed stays so label by label
   live_more : (P Q : Labels → Type 0) → ((base : Labels) → Closed P base → Closed Q base) → (labels base : Labels)
       → Closed (ReachedFrom P labels) base → Closed (ReachedFrom Q labels) base

@@ -8,7 +8,7 @@ use Rattle.std.specs.declared.cmp.Ordering.{Ordering}
 use Rattle.std.proofs.lemmas.Bool.{cases_lt}
 use Rattle.std.proofs.lemmas.Cmp.{tied_itself}
 use Rattle.std.proofs.lemmas.Map.Lookups.{CmpEqualImpliesEq}
-use Rattle.std.proofs.lemmas.List.{take_at, length-append, take-append-drop, length-drop, get_or_default}
+use Rattle.std.proofs.lemmas.List.{take_at, drop_at, length-append, take-append-drop, length-drop, get_or_default}
 use Rattle.std.proofs.lemmas.List.Sorted.{searchable_from_sorted}
 use Rattle.dns_data.specs.Name.{Labels, name_cmp, AreInOrder}
 use Rattle.dns_data.proofs.NameOrder.{names_total}
@@ -71,6 +71,13 @@ pub same_above : (a b : Labels) (x y : List ℕ) → a ++ x ∷ [] ≡ b ++ y �
 same_above a b x y e =
     let sizes : length a ≡ length b = omega (arith, ap length e, length-append a (x ∷ []), length-append b (y ∷ [])) in
     sym (take_at a (x ∷ []) (length a) refl) ∙ ap (take (length a)) e ∙ take_at b (y ∷ []) (length a) (sym sizes)
+
+-- names that are equal have the same last label
+pub same_last : (a b : Labels) (x y : List ℕ) → a ++ x ∷ [] ≡ b ++ y ∷ [] → x ≡ y
+same_last a b x y e =
+    let sizes : length a ≡ length b = omega (arith, ap length e, length-append a (x ∷ []), length-append b (y ∷ [])) in
+    ap (λ (l : Labels). get_or l 0 [])
+    (sym (drop_at a (x ∷ []) (length a) refl) ∙ ap (drop (length a)) e ∙ drop_at b (y ∷ []) (length a) (sym sizes))
 
 -- the root is no name with a label below it
 pub root_below_none : (above : Labels) (label : List ℕ) → above ++ label ∷ [] ≡ [] → ⊥

@@ -7,10 +7,12 @@ use Rattle.std.proofs.lemmas.List.{map-append, length-map, get_or_append_left}
 use Rattle.dns_data.specs.Name.{Labels, AreInOrder}
 use Rattle.dns_data.proofs.Membership.{all_from_contains}
 use Rattle.label_graph.specs.declared.next.NextName.{NextName}
-use Rattle.label_graph.specs.Graphs.{SomeItem, IsStep, IsFrom, IsGraph, IsLiveBelow}
+use Rattle.label_graph.specs.declared.pair.Pair.{Pair}
+use Rattle.label_graph.specs.Graphs.{SomeItem, IsGraph, IsLiveBelow}
 use Rattle.label_graph.specs.LiveSet.{IsLiveSet, name_at}
 use Rattle.label_graph.specs.NameTree.{IsNextBelow}
-use Rattle.label_graph.specs.Targets.{Targets, ground_in}
+use Rattle.label_graph.specs.Pairs.{ground_with}
+use Rattle.label_graph.specs.Targets.{IsFrom, IsStep}
 use Rattle.label_graph.proofs.GraphSets.{step_set}
 use Rattle.label_graph.proofs.NamePlaces.{one_place}
 use Rattle.label_graph.proofs.Passing.{one_iff, single_iff}
@@ -62,21 +64,22 @@ pub steps_within : (names : List Labels) (label : List ℕ) (live places : List 
 steps_within names label live places steps =
     all_from_contains (λ (place : ℕ). place < length names) places (λ place has. let (above, among, is) = (steps place).0 has in is.0)
 
-module _ (targets : Targets) (reads : List (List ℕ)) where
+module _ (names : List Labels) (reads : List (List ℕ)) where
   -- below one place the one step to a label is the place of the name with it
-  pub live_below_one : (place other : ℕ) (label places : List ℕ) → AreInOrder targets.names → IsNextBelow targets.names place other
-      → name_at targets.names other ≡ name_at targets.names place ++ label ∷ []
-      → ((o : ℕ) → Contains places o ↔ SomeItem (IsFrom targets reads o) (other ∷ [])) → IsLiveBelow targets reads (place ∷ []) label places
+  pub live_below_one : (place other : ℕ) (label places : List ℕ) → AreInOrder names → IsNextBelow names place other
+      → name_at names other ≡ name_at names place ++ label ∷ []
+      → ((o : ℕ) → Contains places o ↔ SomeItem (IsFrom reads o) (other ∷ [])) → IsLiveBelow names reads (place ∷ []) label places
   live_below_one place other label places order next is closed =
       record {
         steps = other ∷ [];
-        are_steps = λ o. one_iff (IsStep targets.names label o) (place ∷ []) refl (Contains (other ∷ []) o)
-            (single_iff other (λ (x : ℕ). IsStep targets.names label x place) (next.inside, is)
-            (λ x step. one_place targets.names order other x next.inside step.0 (is ∙ sym step.1)) o);
+        are_steps = λ o. one_iff (IsStep names label o) (place ∷ []) refl (Contains (other ∷ []) o)
+            (single_iff other (λ (x : ℕ). IsStep names label x place) (next.inside, is)
+            (λ x step. one_place names order other x next.inside step.0 (is ∙ sym step.1)) o);
         closed = closed;
       }
 
   -- what is live below the live set of a name is the live set of the name with the label
-  pub next_live : IsGraph targets reads → (name : Labels) (live : List ℕ) → IsLiveSet (ground_in targets) name live → (label places : List ℕ)
-      → IsLiveBelow targets reads live label places → IsLiveSet (ground_in targets) (name ++ label ∷ []) places
-  next_live graph name live of label places below = step_set targets reads graph name label live below.steps places of below.are_steps below.closed
+  pub next_live : (pairs : List Pair) → IsGraph names pairs reads → (name : Labels) (live : List ℕ) → IsLiveSet (ground_with names pairs) name live
+      → (label places : List ℕ) → IsLiveBelow names reads live label places → IsLiveSet (ground_with names pairs) (name ++ label ∷ []) places
+  next_live pairs graph name live of label places below =
+      step_set names pairs reads graph name label live below.steps places of below.are_steps below.closed

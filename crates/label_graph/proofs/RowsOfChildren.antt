@@ -9,7 +9,7 @@ use Rattle.std.proofs.Math.Seq.{get_or-append_seam}
 use Rattle.dns_data.proofs.Membership.{none_in_nil, has_first, has_later, first_or_later, all_from_contains}
 use Rattle.label_graph.specs.ChildRows.{rows_from, RiseTo, IsNextChild, AreChainsFrom, IsChain, AreChildRows}
 use Rattle.label_graph.specs.Rows.{RowHas}
-use Rattle.label_graph.proofs.RowItems.{same_or_not}
+use Rattle.label_graph.proofs.PutPlaces.{same_or_not}
 
 -- ---- rows one behind the other
 

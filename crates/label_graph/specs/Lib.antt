@@ -4,12 +4,10 @@ pub use Rattle.net_model.specs.Reading
 pub mod Base
 pub mod ChildRows
 pub mod Graphs
-pub mod LinkRows
 pub mod LiveSet
 pub mod NameTree
 pub mod Pairs
 pub mod Places
 pub mod Rows
-pub mod Saturation
 pub mod Sorting
 pub mod Targets

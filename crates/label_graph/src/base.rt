@@ -1,9 +1,9 @@
 //! The base names of configurations.
 
-ghost use Rattle.std.specs.Prelude.{◌≡◌, ◌↔◌, ◌⊎◌, [], ◌++◌, map, Contains, IsPermutation, IfOk, OnOk};
+ghost use Rattle.std.specs.Prelude.{◌≡◌, ◌↔◌, ◌⊎◌, ◌++◌, map, Contains, IsPermutation, IfOk, OnOk};
 ghost use Rattle.std.specs.List.{flat_map};
-ghost use Rattle.dns_data.specs.Name.{Labels, AreInOrder};
-ghost use Rattle.net_model.specs.Reading.{Redirection, redirection_of, redirections_of, ground_of, joined_ground};
+ghost use Rattle.dns_data.specs.Name.{Labels};
+ghost use Rattle.net_model.specs.Reading.{Redirection, redirection_of, redirections_of};
 ghost use Rattle.label_graph.specs.Base.{
   IsInConfig,
   IsInServer,
@@ -12,75 +12,16 @@ ghost use Rattle.label_graph.specs.Base.{
   zone_redirections,
 };
 ghost use Rattle.label_graph.specs.Graphs.{SomeItem};
-ghost use Rattle.label_graph.specs.LiveSet.{HavePrefixes, IsClosed};
-ghost use Rattle.label_graph.specs.Pairs.{redirection, ground_with, AreSame};
+ghost use Rattle.label_graph.specs.LiveSet.{HavePrefixes};
+ghost use Rattle.label_graph.specs.Pairs.{redirection};
 ghost use Rattle.label_graph.specs.Targets.{IsPrefixFrom};
 
 use crate::pair::Pair;
 use crate::parts::put_new_fronts;
-use crate::sorting::{in_order, sort_from};
-use dns_data::{List, Name, NoMemory, Rdata, Rr};
+use crate::sorting::sort_from;
+use dns_data::{Name, NoMemory, Rdata, Rr};
 use net_model::{Config, Server, Zone};
 use std::alloc::Global;
-
-/// Base names in order, each once, and the pairs of DNAME records.
-#[derive(Debug, Drop)]
-pub struct BaseNames {
-    pub names: List<Name>,
-    pub dnames: List<Pair>,
-}
-
-/// The base names of the configuration: the root, and all prefixes of its zones' origins and its records' owners; with
-/// the pairs of its DNAME records.
-pub fn base_of(alloc: Global, config: &Config) -> Result<BaseNames, NoMemory>
-    ensures same { IfOk result (λ base. AreSame (ground_with base.names base.dnames) (ground_of config.now)) }
-    ensures closed { IfOk result (λ base. IsClosed (ground_with base.names base.dnames)) }
-    ensures order { IfOk result (λ base. AreInOrder base.names) }
-{
-    base_of_all(alloc, &[config], &[])
-}
-
-/// The base names of several configurations and of some names more: the root, and all prefixes of the configurations'
-/// origins and owners and of these names; with the pairs of all DNAME records.
-pub fn base_of_all(
-    alloc: Global,
-    configs: &[&Config],
-    more: &[&Name],
-) -> Result<BaseNames, NoMemory>
-    ensures same { IfOk result (λ base. AreSame (ground_with base.names base.dnames) (joined_ground (map (λ config. config.now) configs.now) (map (λ name. name.now) more.now))) }
-    ensures closed { IfOk result (λ base. IsClosed (ground_with base.names base.dnames)) }
-    ensures order { IfOk result (λ base. AreInOrder base.names) }
-{
-    let mut names = Vec::new(alloc);
-    let mut dnames = Vec::new(alloc);
-    names.push(Name::root())?;
-    put_configs(alloc, configs, &mut names, &mut dnames)?;
-    put_names(alloc, more, &mut names)?;
-    let names = in_order(names)?;
-    Ok(BaseNames {
-        names: List::from_vec(names),
-        dnames: List::from_vec(dnames),
-    })
-}
-
-/// Puts the fronts of the origins and owners of configurations, and the pairs of their DNAME records, at the end.
-fn put_configs(
-    alloc: Global,
-    configs: &[&Config],
-    names: &mut Vec<Name>,
-    dnames: &mut Vec<Pair>,
-) -> Result<(), NoMemory>
-    requires { HavePrefixes names.old.items }
-    ensures prefixes { OnOk result (HavePrefixes names.new.items) }
-    ensures names { OnOk result ((name : Labels) → Contains names.new.items name ↔ (Contains names.old.items name ⊎ SomeItem (λ config. IsInConfig name config.now) configs.now)) }
-    ensures pairs { OnOk result ((pair : Redirection) → Contains (map redirection dnames.new.items) pair
-        ↔ (Contains (map redirection dnames.old.items) pair ⊎ SomeItem (λ config. Contains (redirections_of config.now) pair) configs.now)) }
-{
-    for config in configs {
-        put_config(alloc, *config, names, dnames)?;
-    }
-    Ok(())
-}
 
 /// Puts the fronts of the origins and owners of a configuration, and the pairs of its DNAME records, at the end.
 pub fn put_config(

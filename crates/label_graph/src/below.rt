@@ -3,7 +3,8 @@
 ghost use Rattle.std.specs.Prelude.{◌≡◌, ◌↔◌, ◌⊎◌, ◌<◌, ℕ, List, ◌++◌, length, Contains, All, AllPairs, IsTrue, IfOk, OnOk};
 ghost use Rattle.std.specs.declared.cmp.Ordering.TheVariants.{Less};
 ghost use Rattle.dns_data.specs.Label.{label_cmp};
-ghost use Rattle.label_graph.specs.Graphs.{AreLabelsBelow, HasChild, IsStep, SomeItem};
+ghost use Rattle.label_graph.specs.Graphs.{AreLabelsBelow, HasChild, SomeItem};
+ghost use Rattle.label_graph.specs.Targets.{IsStep};
 
 use crate::live::LiveSet;
 use crate::names::NameTree;

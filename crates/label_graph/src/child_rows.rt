@@ -28,7 +28,7 @@ impl Model for ChildRows {
 impl ChildRows {
     /// For each place, of which the parents are given, the places of which it is the parent, in order. The first place is
     /// the root, and nobody's child. `NoMemory` comes where there is no room for the rows.
-    pub fn of(alloc: Global, parents: &[usize]) -> Result<ChildRows, NoMemory>
+    pub(crate) fn of(alloc: Global, parents: &[usize]) -> Result<ChildRows, NoMemory>
         requires { (place : ℕ) → 0 < place → place < length parents.now → slice_index parents.now place < length parents.now }
         ensures { IfOk result (AreChildRows parents.now) }
     {
@@ -44,7 +44,7 @@ impl ChildRows {
     }
 
     /// The row of a place.
-    pub fn at(&self, place: usize) -> &[usize]
+    pub(crate) fn at(&self, place: usize) -> &[usize]
         requires { place < length self.now }
         ensures { result.now ≡ slice_index_or self.now place [] }
     {

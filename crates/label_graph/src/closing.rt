@@ -1,78 +1,53 @@
-//! What is live besides base names: what the targets of their redirections read on to.
+//! What is live besides base names: where their redirections lead.
 
-ghost use Rattle.std.specs.Prelude.{◌≡◌, ◌↔◌, ◌⊎◌, ◌<◌, ℕ, [], length, slice_index_or, Contains, All, IsTrue, IfOk, OnOk};
-ghost use Rattle.label_graph.specs.Graphs.{IsFrom, SomeItem};
+ghost use Rattle.std.specs.Prelude.{◌≡◌, ◌↔◌, ◌<◌, ℕ, [], length, slice_index_or, Contains, All, IsTrue, IfOk};
+ghost use Rattle.label_graph.specs.Graphs.{SomeItem};
+ghost use Rattle.label_graph.specs.Rows.{AreInside};
+ghost use Rattle.label_graph.specs.Targets.{IsFrom};
 
 use crate::live::LiveSet;
-use crate::rows::Rows;
-use crate::sorting::in_order;
-use crate::targets::TargetTable;
-use dns_data::NoMemory;
+use crate::rows::{Rows, put_missing};
+use dns_data::{List, NoMemory};
 use std::alloc::Global;
 
-/// The places with those that the targets of their names read on to, each once.
-pub(crate) fn close(
-    alloc: Global,
-    table: &TargetTable,
-    reads: &Rows,
-    places: LiveSet,
-) -> Result<LiveSet, NoMemory>
-    requires within { All (λ place. place < length table.now.names) places }
-    requires len { length reads.now ≡ length table.now.fronts }
-    ensures { IfOk result (λ live. (other : ℕ) → Contains live other ↔ SomeItem (IsFrom table.now reads.now other) places) }
+/// The places with those to which one comes from them by the rows.
+pub(crate) fn close(alloc: Global, reads: &Rows, places: LiveSet) -> Result<LiveSet, NoMemory>
+    requires within { All (λ place. place < length reads.now) places }
+    requires rows { AreInside reads.now }
+    ensures { IfOk result (λ live. (other : ℕ) → Contains live other ↔ SomeItem (IsFrom reads.now other) places) }
 {
-    if none_redirected(table, places.places()) {
+    if none_redirected(reads, places.places()) {
         return Ok(places);
     }
-    closed(alloc, table, reads, places.places())
+    closed(alloc, reads, places.places())
 }
 
-/// Whether none of the names at these places is redirected.
-fn none_redirected(table: &TargetTable, places: &[usize]) -> bool
-    requires { All (λ place. place < length table.now.names) places.now }
-    ensures { IsTrue result → All (λ place. slice_index_or table.now.links.fronts place [] ≡ []) places.now }
+/// Whether one comes from none of these places to another.
+fn none_redirected(reads: &Rows, places: &[usize]) -> bool
+    requires { All (λ place. place < length reads.now) places.now }
+    ensures { IsTrue result → All (λ place. slice_index_or reads.now place [] ≡ []) places.now }
 {
     for place in places {
-        if !table.links.fronts_of(*place).is_empty() {
+        if !reads.at(*place).is_empty() {
             return false;
         }
     }
     true
 }
 
-/// The places with those that the targets of their names read on to, put in order.
-fn closed(
-    alloc: Global,
-    table: &TargetTable,
-    reads: &Rows,
-    places: &[usize],
-) -> Result<LiveSet, NoMemory>
-    requires within { All (λ place. place < length table.now.names) places.now }
-    requires len { length reads.now ≡ length table.now.fronts }
-    ensures { IfOk result (λ live. (other : ℕ) → Contains live other ↔ SomeItem (IsFrom table.now reads.now other) places.now) }
+/// The places, each once, with those to which one comes from them by the rows: each that is found is looked at once.
+fn closed(alloc: Global, reads: &Rows, places: &[usize]) -> Result<LiveSet, NoMemory>
+    requires within { All (λ place. place < length reads.now) places.now }
+    requires rows { AreInside reads.now }
+    ensures { IfOk result (λ live. (other : ℕ) → Contains live other ↔ SomeItem (IsFrom reads.now other) places.now) }
 {
-    let mut all = Vec::new(alloc);
-    for place in places {
-        put_closed(table, reads, &mut all, *place)?;
+    let mut found = List::new(alloc);
+    put_missing(&mut found, places)?;
+    let mut passed = 0;
+    while passed < found.len() {
+        let place = found.items()[passed];
+        put_missing(&mut found, reads.at(place))?;
+        passed += 1;
     }
-    let places = in_order(all)?;
-    LiveSet::listed(alloc, places)
-}
-
-/// Puts a place, and those that the targets of its name read on to, at the end.
-fn put_closed(
-    table: &TargetTable,
-    reads: &Rows,
-    places: &mut Vec<usize>,
-    place: usize,
-) -> Result<(), NoMemory>
-    requires within { place < length table.now.names }
-    requires len { length reads.now ≡ length table.now.fronts }
-    ensures { OnOk result ((other : ℕ) → Contains places.new.items other ↔ (Contains places.old.items other ⊎ IsFrom table.now reads.now other place)) }
-{
-    places.push(place)?;
-    for front in table.links.fronts_of(place) {
-        places.extend_from_slice(reads.at(*front))?;
-    }
-    Ok(())
+    LiveSet::listed(alloc, found.into_vec())
 }

@@ -4,20 +4,20 @@ ghost use Rattle.std.specs.Prelude.{◌≡◌, ◌↔◌, ℕ, List, [], ◌∷�
 ghost use Rattle.std.specs.declared.cmp.Ordering.TheVariants.{Less};
 ghost use Rattle.dns_data.specs.Label.{label_cmp};
 ghost use Rattle.dns_data.specs.Name.{Labels, AreInOrder};
-ghost use Rattle.net_model.specs.Reading.{IsNamed, ground_of, joined_ground};
+ghost use Rattle.net_model.specs.Reading.{IsNamed, ground_of};
 ghost use Rattle.label_graph.specs.LiveSet.{IsClosed, IsLiveSet};
 ghost use Rattle.label_graph.specs.Pairs.{ground_with, AreSame};
 
-use crate::base::{BaseNames, base_of_all};
+use crate::base::put_config;
 use crate::below::{has_step, step};
 use crate::closing::close;
+use crate::following::reads_of;
 use crate::live::LiveSet;
+use crate::names::NameTree;
 use crate::next::{NextName, next_names};
-use crate::pair::Pair;
+use crate::pair::{Pair, copies};
 use crate::rows::Rows;
-use crate::saturation::reads_of;
 use crate::sorting::in_order;
-use crate::targets::TargetTable;
 use dns_data::{Label, List, Name, NoMemory};
 use net_model::Config;
 use std::alloc::Global;
@@ -26,20 +26,21 @@ use std::marker::Model;
 /// The graph. Contracts see it as its base names, in order, and its redirections.
 #[derive(Drop)]
 pub struct LabelGraph {
-    table: TargetTable,
+    base: NameTree,
+    dnames: List<Pair>,
     reads: Rows,
 }
 
 impl Model for LabelGraph {
     ghost use Rattle.net_model.specs.Reading.{Ground};
     ghost use Rattle.label_graph.specs.Graphs.{IsGraph};
-    ghost use Rattle.label_graph.specs.Targets.{ground_in};
+    ghost use Rattle.label_graph.specs.Pairs.{ground_with};
 
     ghost Value = { Ground };
 
-    ghost view = { λ graph. ground_in graph.table };
+    ghost view = { λ graph. ground_with graph.base graph.dnames };
 
-    ghost invariant = { λ graph. IsGraph graph.table graph.reads };
+    ghost invariant = { λ graph. IsGraph graph.base graph.dnames graph.reads };
 }
 
 impl LabelGraph {
@@ -48,21 +49,11 @@ impl LabelGraph {
         ensures same { IfOk result (λ graph. AreSame graph (ground_of config.now)) }
         ensures order { IfOk result (λ graph. AreInOrder graph.names) }
     {
-        LabelGraph::of_names(alloc, &[config], &[])
-    }
-
-    /// The graph of several configurations and of some names more: of their base names and of the pairs of all DNAME
-    /// records.
-    pub fn of_names(
-        alloc: Global,
-        configs: &[&Config],
-        more: &[&Name],
-    ) -> Result<LabelGraph, NoMemory>
-        ensures same { IfOk result (λ graph. AreSame graph (joined_ground (map (λ config. config.now) configs.now) (map (λ name. name.now) more.now))) }
-        ensures order { IfOk result (λ graph. AreInOrder graph.names) }
-    {
-        let BaseNames { names, dnames } = base_of_all(alloc, configs, more)?;
-        LabelGraph::of_ordered(alloc, names.into_vec(), dnames.items())
+        let mut names = Vec::new(alloc);
+        let mut dnames = Vec::new(alloc);
+        names.push(Name::root())?;
+        put_config(alloc, config, &mut names, &mut dnames)?;
+        LabelGraph::build(alloc, names, dnames.as_slice())
     }
 
     /// The graph of the names and of the pairs of DNAME records. The names are put in order.
@@ -82,18 +73,23 @@ impl LabelGraph {
         ensures same { IfOk result (λ graph. AreSame graph (ground_with names.items dnames.now)) }
         ensures order { IfOk result (λ graph. AreInOrder graph.names) }
     {
-        let table = TargetTable::build(alloc, names, dnames)?;
-        let reads = reads_of(alloc, &table)?;
-        Ok(LabelGraph { table, reads })
+        let base = NameTree::of_ordered(alloc, names)?;
+        let reads = reads_of(alloc, &base, dnames)?;
+        let dnames = copies(alloc, dnames)?;
+        Ok(LabelGraph {
+            base,
+            dnames,
+            reads,
+        })
     }
 
     /// The live set of the root.
     pub fn start(&self, alloc: Global) -> Result<LiveSet, NoMemory>
         ensures { IfOk result (IsLiveSet self.now []) }
     {
-        let root = self.table.base.root();
+        let root = self.base.root();
         // Named, since the proof speaks of the live set that comes where memory suffices.
-        let live = close(alloc, &self.table, &self.reads, LiveSet::one(root))?;
+        let live = close(alloc, &self.reads, LiveSet::one(root))?;
         Ok(live)
     }
 
@@ -102,9 +98,9 @@ impl LabelGraph {
         requires { (name : Labels) × IsLiveSet self.now name live.now }
         ensures { IfOk result (λ next. (name : Labels) → IsLiveSet self.now name live.now → IsLiveSet self.now (name ++ label.now ∷ []) next) }
     {
-        let places = step(alloc, &self.table.base, live.places(), label.items())?;
+        let places = step(alloc, &self.base, live.places(), label.items())?;
         // Named, since the proof speaks of the live set that comes where memory suffices.
-        let next = close(alloc, &self.table, &self.reads, places)?;
+        let next = close(alloc, &self.reads, places)?;
         Ok(next)
     }
 
@@ -113,7 +109,7 @@ impl LabelGraph {
         requires { (name : Labels) × IsLiveSet self.now name live.now }
         ensures { (name : Labels) → IsLiveSet self.now name live.now → IsTrue result ↔ IsNamed self.now (name ++ label.now ∷ []) }
     {
-        has_step(&self.table.base, live.places(), label.items())
+        has_step(&self.base, live.places(), label.items())
     }
 
     /// The labels that make a named name below a name with this live set, in order, each once and with the live set of
@@ -126,7 +122,7 @@ impl LabelGraph {
         ensures live { IfOk result (λ names. (name : Labels) → IsLiveSet self.now name live.now
             → All (λ next. IsLiveSet self.now (name ++ next.label ∷ []) next.live) names) }
     {
-        let names = next_names(alloc, &self.table, &self.reads, live.places())?;
+        let names = next_names(alloc, &self.base, &self.reads, live.places())?;
         Ok(List::from_vec(names))
     }
 
@@ -134,15 +130,15 @@ impl LabelGraph {
     pub(crate) fn is_closed(&self)
         ensures { IsClosed self.now }
     {
-        // The table is read, so that what holds of the graph is known here.
-        let _ = &self.table;
+        // The rows are read, so that what holds of the graph is known here.
+        let _ = &self.reads;
     }
 
     /// Each name has a live set in the graph.
     pub(crate) fn has_live_sets(&self)
         ensures { (name : Labels) → (places : List ℕ) × IsLiveSet self.now name places }
     {
-        // The table is read, so that what holds of the graph is known here.
-        let _ = &self.table;
+        // The rows are read, so that what holds of the graph is known here.
+        let _ = &self.reads;
     }
 }

@@ -9,7 +9,6 @@ ghost use Rattle.label_graph.specs.LiveSet.{HavePrefixes, name_at};
 ghost use Rattle.label_graph.specs.NameTree.{IsNextBelow, AreParents, AreRowsBelow, octets_from};
 
 use crate::child_rows::ChildRows;
-use crate::sorting::in_order;
 use dns_data::{Name, NoMemory, octets_order};
 use std::alloc::Global;
 use std::cmp::Ordering;
@@ -36,19 +35,8 @@ impl Model for NameTree {
 }
 
 impl NameTree {
-    /// The tree of names that have the root and the prefixes of each.
-    pub fn build(alloc: Global, names: Vec<Name>) -> Result<NameTree, NoMemory>
-        requires { HavePrefixes names.items }
-        ensures same { IfOk result (λ tree. (name : Labels) → Contains tree name ↔ Contains names.items name) }
-        ensures order { IfOk result AreInOrder }
-        ensures closed { IfOk result HavePrefixes }
-    {
-        let names = in_order(names)?;
-        NameTree::of_ordered(alloc, names)
-    }
-
     /// The tree of names in order, each once, that have the root and the prefixes of each.
-    pub fn of_ordered(alloc: Global, names: Vec<Name>) -> Result<NameTree, NoMemory>
+    pub(crate) fn of_ordered(alloc: Global, names: Vec<Name>) -> Result<NameTree, NoMemory>
         requires order { AreInOrder names.items }
         requires closed { HavePrefixes names.items }
         ensures { IfOk result (λ tree. tree ≡ names.items) }
@@ -58,7 +46,7 @@ impl NameTree {
     }
 
     /// The names.
-    pub fn items(&self) -> &[Name]
+    pub(crate) fn items(&self) -> &[Name]
         ensures same { result.now ≡ self.now }
         ensures order { AreInOrder self.now }
         ensures closed { HavePrefixes self.now }
@@ -67,7 +55,7 @@ impl NameTree {
     }
 
     /// The place of a name, or `None` where it isn't among the names.
-    pub fn place_of(&self, name: &Name) -> Option<usize>
+    pub(crate) fn place_of(&self, name: &Name) -> Option<usize>
         ensures place { MatchOption result (Contains self.now name.now → ⊥) (λ place. (place < length self.now) × (name_at self.now place ≡ name.now)) }
         ensures order { AreInOrder self.now }
     {
@@ -75,9 +63,10 @@ impl NameTree {
     }
 
     /// The place of the root.
-    pub fn root(&self) -> usize
+    pub(crate) fn root(&self) -> usize
         ensures within { result < length self.now }
         ensures root { name_at self.now result ≡ [] }
+        ensures order { AreInOrder self.now }
     {
         match place_in(self.names.as_slice(), &Name::root()) {
             Some(place) => place,
@@ -86,7 +75,7 @@ impl NameTree {
     }
 
     /// The places of the names one label below the one at this place, in order.
-    pub fn below(&self, place: usize) -> &[usize]
+    pub(crate) fn below(&self, place: usize) -> &[usize]
         requires { place < length self.now }
         ensures below { (other : ℕ) → Contains result.now other ↔ IsNextBelow self.now place other }
         ensures rising { AllPairs (λ a b. a < b) result.now }
@@ -96,10 +85,11 @@ impl NameTree {
     }
 
     /// The last label of the name at the second place, which is one label below the one at the first.
-    pub fn last_label(&self, place: usize, other: usize) -> &[u8]
+    pub(crate) fn last_label(&self, place: usize, other: usize) -> &[u8]
         requires { IsNextBelow self.now place other }
         ensures is { name_at self.now other ≡ name_at self.now place ++ result.now ∷ [] }
         ensures label { IsLabel result.now }
+        ensures order { AreInOrder self.now }
     {
         let from = behind(&self.names[place]);
         // The labels are read, so that it is known here that they are those of a name.
@@ -108,7 +98,7 @@ impl NameTree {
     }
 
     /// The place of the name with this label below the one at this place, or `None` where it isn't among the names.
-    pub fn child(&self, place: usize, label: &[u8]) -> Option<usize>
+    pub(crate) fn child(&self, place: usize, label: &[u8]) -> Option<usize>
         requires { place < length self.now }
         ensures child { MatchOption result (Contains self.now (name_at self.now place ++ label.now ∷ []) → ⊥)
             (λ other. (other < length self.now) × (name_at self.now other ≡ name_at self.now place ++ label.now ∷ [])) }

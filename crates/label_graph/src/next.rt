@@ -6,12 +6,13 @@ ghost use Rattle.dns_data.specs.Label.{label_cmp};
 ghost use Rattle.label_graph.specs.Graphs.{AreLabelsBelow, HasChild, IsLiveBelow, SomeItem};
 ghost use Rattle.label_graph.specs.LiveSet.{name_at};
 ghost use Rattle.label_graph.specs.NameTree.{IsNextBelow};
+ghost use Rattle.label_graph.specs.Rows.{AreInside};
 
 use crate::below::{labels_below, step};
 use crate::closing::close;
 use crate::live::LiveSet;
+use crate::names::NameTree;
 use crate::rows::Rows;
-use crate::targets::TargetTable;
 use dns_data::{Label, NoMemory};
 use std::alloc::Global;
 
@@ -25,23 +26,24 @@ pub struct NextName {
 /// The labels below these places, in order, each once, with what is live there. Below one place no label is looked for.
 pub(crate) fn next_names(
     alloc: Global,
-    table: &TargetTable,
+    base: &NameTree,
     reads: &Rows,
     places: &[usize],
 ) -> Result<Vec<NextName>, NoMemory>
-    requires within { All (λ place. place < length table.now.names) places.now }
-    requires len { length reads.now ≡ length table.now.fronts }
-    ensures labels { IfOk result (λ names. (label : List ℕ) → Contains (map (λ next. next.label) names.items) label ↔ SomeItem (HasChild table.now.names label) places.now) }
+    requires within { All (λ place. place < length base.now) places.now }
+    requires len { length reads.now ≡ length base.now }
+    requires rows { AreInside reads.now }
+    ensures labels { IfOk result (λ names. (label : List ℕ) → Contains (map (λ next. next.label) names.items) label ↔ SomeItem (HasChild base.now label) places.now) }
     ensures order { IfOk result (λ names. AllPairs (λ a b. label_cmp a b ≡ Less) (map (λ next. next.label) names.items)) }
-    ensures live { IfOk result (λ names. All (λ next. IsLiveBelow table.now reads.now places.now next.label next.live) names.items) }
+    ensures live { IfOk result (λ names. All (λ next. IsLiveBelow base.now reads.now places.now next.label next.live) names.items) }
 {
     if let [place] = places {
-        return next_of_one(alloc, table, reads, *place);
+        return next_of_one(alloc, base, reads, *place);
     }
-    let labels = labels_below(alloc, &table.base, places)?;
+    let labels = labels_below(alloc, base, places)?;
     let mut names = Vec::with_capacity(alloc, labels.len())?;
     for label in labels.as_slice() {
-        names.push(next_with(alloc, table, reads, places, label)?)?;
+        names.push(next_with(alloc, base, reads, places, label)?)?;
     }
     Ok(names)
 }
@@ -49,18 +51,19 @@ pub(crate) fn next_names(
 /// The labels below a place, which stand in order there, with what is live there.
 fn next_of_one(
     alloc: Global,
-    table: &TargetTable,
+    base: &NameTree,
     reads: &Rows,
     place: usize,
 ) -> Result<Vec<NextName>, NoMemory>
-    requires within { place < length table.now.names }
-    requires len { length reads.now ≡ length table.now.fronts }
-    ensures labels { IfOk result (λ names. AreLabelsBelow table.now.names place (map (λ next. next.label) names.items)) }
-    ensures live { IfOk result (λ names. All (λ next. IsLiveBelow table.now reads.now (place ∷ []) next.label next.live) names.items) }
+    requires within { place < length base.now }
+    requires len { length reads.now ≡ length base.now }
+    requires rows { AreInside reads.now }
+    ensures labels { IfOk result (λ names. AreLabelsBelow base.now place (map (λ next. next.label) names.items)) }
+    ensures live { IfOk result (λ names. All (λ next. IsLiveBelow base.now reads.now (place ∷ []) next.label next.live) names.items) }
 {
-    let mut names = Vec::with_capacity(alloc, table.base.below(place).len())?;
-    for other in table.base.below(place) {
-        names.push(next_at(alloc, table, reads, place, *other)?)?;
+    let mut names = Vec::with_capacity(alloc, base.below(place).len())?;
+    for other in base.below(place) {
+        names.push(next_at(alloc, base, reads, place, *other)?)?;
     }
     Ok(names)
 }
@@ -68,36 +71,38 @@ fn next_of_one(
 /// The last label of the name at the second place, which is one label below the one at the first, with what is live there.
 fn next_at(
     alloc: Global,
-    table: &TargetTable,
+    base: &NameTree,
     reads: &Rows,
     place: usize,
     other: usize,
 ) -> Result<NextName, NoMemory>
-    requires below { IsNextBelow table.now.names place other }
-    requires len { length reads.now ≡ length table.now.fronts }
-    ensures label { IfOk result (λ next. name_at table.now.names other ≡ name_at table.now.names place ++ next.label ∷ []) }
-    ensures live { IfOk result (λ next. IsLiveBelow table.now reads.now (place ∷ []) next.label next.live) }
+    requires below { IsNextBelow base.now place other }
+    requires len { length reads.now ≡ length base.now }
+    requires rows { AreInside reads.now }
+    ensures label { IfOk result (λ next. name_at base.now other ≡ name_at base.now place ++ next.label ∷ []) }
+    ensures live { IfOk result (λ next. IsLiveBelow base.now reads.now (place ∷ []) next.label next.live) }
 {
-    let label = Label::with_octets(alloc, table.base.last_label(place, other))?;
-    let live = close(alloc, table, reads, LiveSet::one(other))?;
+    let label = Label::with_octets(alloc, base.last_label(place, other))?;
+    let live = close(alloc, reads, LiveSet::one(other))?;
     Ok(NextName { label, live })
 }
 
 /// A label with what is live where it is put below these places.
 fn next_with(
     alloc: Global,
-    table: &TargetTable,
+    base: &NameTree,
     reads: &Rows,
     places: &[usize],
     label: &Label,
 ) -> Result<NextName, NoMemory>
-    requires within { All (λ place. place < length table.now.names) places.now }
-    requires len { length reads.now ≡ length table.now.fronts }
+    requires within { All (λ place. place < length base.now) places.now }
+    requires len { length reads.now ≡ length base.now }
+    requires rows { AreInside reads.now }
     ensures label { IfOk result (λ next. next.label ≡ label.now) }
-    ensures live { IfOk result (λ next. IsLiveBelow table.now reads.now places.now next.label next.live) }
+    ensures live { IfOk result (λ next. IsLiveBelow base.now reads.now places.now next.label next.live) }
 {
-    let steps = step(alloc, &table.base, places, label.items())?;
-    let live = close(alloc, table, reads, steps)?;
+    let steps = step(alloc, base, places, label.items())?;
+    let live = close(alloc, reads, steps)?;
     let label = label.copy(alloc)?;
     Ok(NextName { label, live })
 }

@@ -1,7 +1,7 @@
 //! For each place a list of places.
 
-ghost use Rattle.std.specs.Prelude.{◌≡◌, ◌<◌, [], ◌∷◌, ◌++◌, length, replicate, slice_index_or, slice_set, OnOk};
-ghost use Rattle.label_graph.specs.Rows.{IsFilledOn};
+ghost use Rattle.std.specs.Prelude.{◌≡◌, ◌<◌, [], length, replicate, slice_index_or, IfOk, OnOk};
+ghost use Rattle.label_graph.specs.Rows.{AreAdded, IsFilledOn, IsPut};
 
 use dns_data::{List, NoMemory};
 use std::alloc::Global;
@@ -27,7 +27,7 @@ impl Model for Rows {
 
 impl Rows {
     /// Empty rows, as many as asked for. They take no memory.
-    pub fn new(alloc: Global, count: usize) -> Rows
+    pub(crate) fn new(alloc: Global, count: usize) -> Rows
         ensures { result ≡ replicate count [] }
     {
         Rows {
@@ -37,21 +37,25 @@ impl Rows {
     }
 
     /// The row of a place.
-    pub fn at(&self, place: usize) -> &[usize]
+    pub(crate) fn at(&self, place: usize) -> &[usize]
         requires { place < length self.now }
         ensures { result.now ≡ slice_index_or self.now place [] }
     {
         row_in(self.filled.as_slice(), place)
     }
 
-    /// Puts a place into the row of another.
-    pub fn put(&mut self, alloc: Global, place: usize, other: usize) -> Result<(), NoMemory>
+    /// Puts those of some places that the row of a place hasn't at its end, each once. Whether there are any.
+    pub(crate) fn put(
+        &mut self,
+        alloc: Global,
+        place: usize,
+        more: &[usize],
+    ) -> Result<bool, NoMemory>
         requires { place < length self.old }
-        ensures ok { OnOk result (self.new ≡ slice_set self.old place (slice_index_or self.old place [] ++ other ∷ [])) }
-        ensures len { length self.new ≡ length self.old }
+        ensures { IfOk result (λ any. IsPut self.old place more.now self.new any) }
     {
         fill_on(alloc, &mut self.filled, place)?;
-        self.filled[place].push(other)
+        put_missing(&mut self.filled[place], more)
     }
 }
 
@@ -74,4 +78,18 @@ fn fill_on(alloc: Global, rows: &mut Vec<List<usize>>, place: usize) -> Result<(
         rows.push(List::new(alloc))?;
     }
     Ok(())
+}
+
+/// Puts those of some places that the list hasn't at its end, each once. Whether there are any.
+pub(crate) fn put_missing(list: &mut List<usize>, more: &[usize]) -> Result<bool, NoMemory>
+    ensures { IfOk result (λ any. AreAdded list.old more.now list.new any) }
+{
+    let mut any = false;
+    for place in more {
+        if !list.items().contains(place) {
+            list.push(*place)?;
+            any = true;
+        }
+    }
+    Ok(any)
 }

@@ -1,5 +1,5 @@
 use Rattle.std.proofs.Common.{◌∙◌, ℕ, sym}
-use Rattle.label_graph.specs.Graphs.{IsStep}
+use Rattle.label_graph.specs.Targets.{IsStep}
 use Rattle.label_graph.proofs.NamePlaces.{one_place}
 use Rattle.label_graph.proofs.Passing.{push_iff}
 use Rattle.label_graph.proofs.below.put_step.Goals as goal

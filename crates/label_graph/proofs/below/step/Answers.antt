@@ -1,6 +1,6 @@
 use Rattle.std.proofs.Common.{Contains, arith}
 use Rattle.std.proofs.lemmas.Result.{IfOk-weaker}
-use Rattle.label_graph.specs.Graphs.{IsStep}
+use Rattle.label_graph.specs.Targets.{IsStep}
 use Rattle.label_graph.proofs.Passing.{one_iff}
 use Rattle.label_graph.proofs.below.step.Goals as goal
 

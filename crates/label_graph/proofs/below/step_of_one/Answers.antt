@@ -1,6 +1,6 @@
 use Rattle.std.proofs.Common.{◌∙◌, ℕ, List, Contains, sym, subst}
 use Rattle.std.specs.Prelude.{◌↔◌}
-use Rattle.label_graph.specs.Graphs.{IsStep}
+use Rattle.label_graph.specs.Targets.{IsStep}
 use Rattle.label_graph.proofs.NamePlaces.{one_place}
 use Rattle.label_graph.proofs.Passing.{single_iff}
 use Rattle.label_graph.proofs.below.step_of_one.Goals as goal

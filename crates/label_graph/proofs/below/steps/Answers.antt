@@ -2,7 +2,8 @@ use Rattle.std.proofs.Common.{ℕ, List, Contains, get_or, sym, subst}
 use Rattle.std.specs.Prelude.{◌↔◌}
 use Rattle.std.proofs.lemmas.List.{get_or_default}
 use Rattle.std.proofs.lemmas.Result.{IfOk-weaker}
-use Rattle.label_graph.specs.Graphs.{SomeItem, IsStep}
+use Rattle.label_graph.specs.Graphs.{SomeItem}
+use Rattle.label_graph.specs.Targets.{IsStep}
 use Rattle.label_graph.proofs.Passing.{more_some, all_iff}
 use Rattle.label_graph.proofs.below.steps.Goals as goal
 

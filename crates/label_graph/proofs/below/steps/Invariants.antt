@@ -1,6 +1,7 @@
 use Rattle.std.proofs.Common.{ℕ, take, Contains}
 use Rattle.std.specs.Prelude.{◌↔◌}
-use Rattle.label_graph.specs.Graphs.{SomeItem, IsStep}
+use Rattle.label_graph.specs.Graphs.{SomeItem}
+use Rattle.label_graph.specs.Targets.{IsStep}
 use Rattle.label_graph.proofs.below.steps.Given as goal
 
 -- those below the places passed

@@ -1,8 +1,10 @@
-use Rattle.std.proofs.Common.{ℕ, take, Contains}
-use Rattle.std.specs.Prelude.{◌↔◌}
-use Rattle.label_graph.specs.Graphs.{SomeItem, IsFrom}
+use Rattle.std.proofs.Common.{◌-◌, length}
+use Rattle.label_graph.proofs.LedPlaces.{ClosesUp}
 use Rattle.label_graph.proofs.closing.closed.Given as goal
 
--- the places passed, with what their targets read on to
-abbrev pub invariant-loop-place : goal.invariant-loop-place
-invariant-loop-place l = (other : ℕ) → Contains l.all.items other ↔ SomeItem (IsFrom l.table l.reads other) (take l.place-index l.places)
+-- the list has what the rows of those passed have
+abbrev pub invariant-loop-passed : goal.invariant-loop-passed
+invariant-loop-passed l = ClosesUp l.reads l.places l.found l.passed
+
+abbrev pub decreases-loop-passed : goal.decreases-loop-passed
+decreases-loop-passed l = length l.reads - l.passed

@@ -7,5 +7,5 @@ use Rattle.label_graph.proofs.next.next_names.Given as goal
 abbrev pub invariant-loop-label : goal.invariant-loop-label
 invariant-loop-label l = record {
   labels : labels_of l.names.items ≡ take l.label-index l.label-items;
-  live : All (λ next. IsLiveBelow l.table l.reads l.places next.label next.live) l.names.items;
+  live : All (λ next. IsLiveBelow l.base l.reads l.places next.label next.live) l.names.items;
 }

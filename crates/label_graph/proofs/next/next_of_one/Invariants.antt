@@ -7,6 +7,6 @@ use Rattle.label_graph.proofs.next.next_of_one.Given as goal
 abbrev pub invariant-loop-other : goal.invariant-loop-other
 invariant-loop-other l = record {
   count : length l.names.items ≡ l.other-index;
-  each : AreLasts l.table.names l.place l.other-items l.names.items l.other-index;
-  live : All (λ next. IsLiveBelow l.table l.reads (l.place ∷ []) next.label next.live) l.names.items;
+  each : AreLasts l.base l.place l.other-items l.names.items l.other-index;
+  live : All (λ next. IsLiveBelow l.base l.reads (l.place ∷ []) next.label next.live) l.names.items;
 }

@@ -7,4 +7,4 @@ use Rattle.label_graph.proofs.graph.LabelGraph.has_live_sets.Goals as goal
 pub returns : goal.returns
 returns c name =
     subst (λ (g : Ground). (places : List ℕ) × IsLiveSet g name places) c.self.view_is
-    (live_of_name c.self.inside.table c.self.inside.reads c.self.invariant name)
+    (live_of_name c.self.inside.base c.self.inside.dnames c.self.inside.reads c.self.invariant name)

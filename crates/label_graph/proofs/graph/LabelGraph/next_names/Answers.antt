@@ -15,10 +15,10 @@ returns-clause-order c = rw c.from_vec.ensures c.in_ok-names.ensures.order
 pub returns-clause-labels : goal.returns-clause-labels
 returns-clause-labels c name of label =
     let names = c.in_ok-names.names.items in
-    let has : Contains (labels_of names) label ↔ SomeItem (HasChild c.self.inside.table.names label) c.args.live.now =
-    subst (λ (l : List ℕ). Contains (labels_of names) label ↔ SomeItem (HasChild c.self.inside.table.names label) l) c.places.ensures
+    let has : Contains (labels_of names) label ↔ SomeItem (HasChild c.self.inside.base label) c.args.live.now =
+    subst (λ (l : List ℕ). Contains (labels_of names) label ↔ SomeItem (HasChild c.self.inside.base label) l) c.places.ensures
     (c.in_ok-names.ensures.labels label) in
-    let named = child_named c.self.inside.table c.self.inside.reads c.self.invariant name label c.args.live.now
+    let named = child_named c.self.inside.base c.self.inside.dnames c.self.inside.reads c.self.invariant name label c.args.live.now
     (subst (λ (g : Ground). IsLiveSet g name c.args.live.now) (sym c.self.view_is) of) in
     rw c.from_vec.ensures (subst (λ (g : Ground). Contains (labels_of names) label ↔ IsNamed g (name ++ label ∷ [])) c.self.view_is (
       λ there. named.0 (has.0 there),
@@ -28,12 +28,12 @@ returns-clause-labels c name of label =
 pub returns-clause-live : goal.returns-clause-live
 returns-clause-live c name of =
     let names = c.in_ok-names.names.items in
-    let table = c.self.inside.table in
+    let base = c.self.inside.base in
     let reads = c.self.inside.reads in
     let live = c.args.live.now in
-    let below : All (λ (next : NextName). IsLiveBelow table reads live next.label next.live) names =
-    subst (λ (l : List ℕ). All (λ (next : NextName). IsLiveBelow table reads l next.label next.live) names) c.places.ensures
+    let below : All (λ (next : NextName). IsLiveBelow base reads live next.label next.live) names =
+    subst (λ (l : List ℕ). All (λ (next : NextName). IsLiveBelow base reads l next.label next.live) names) c.places.ensures
     c.in_ok-names.ensures.live in
     rw c.from_vec.ensures (subst (λ (g : Ground). All (λ (next : NextName). IsLiveSet g (name ++ next.label ∷ []) next.live) names) c.self.view_is
-    (All-weaker _ _ (λ next is. next_live table reads c.self.invariant name live
+    (All-weaker _ _ (λ next is. next_live base reads c.self.inside.dnames c.self.invariant name live
     (subst (λ (g : Ground). IsLiveSet g name live) (sym c.self.view_is) of) next.label next.live is) names below))
