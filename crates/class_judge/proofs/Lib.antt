@@ -1,2 +1,1 @@
-pub mod ConfigTrees
-pub mod Refusals
+pub mod WholeConfigs

@@ -1,18 +1,19 @@
-//! The judge of the class tree of a configuration: a work whose items are the names of the tree.
+//! The judge of the class tree of a subject: a work whose items are the names of the tree at or below the subject's name.
 
-ghost use Rattle.std.specs.Prelude.{◌≡◌, ◌<◌, ◌^◌, [], length, IfOk, IfErr, OnOk};
-ghost use Rattle.class_judge.specs.Refused.{IsRefusalOf};
+ghost use Rattle.std.specs.Prelude.{◌≡◌, ◌<◌, ◌^◌, length, IfOk, IfErr, OnOk};
+ghost use Rattle.class_judge.specs.Judge.{IsWholeRefusal};
 ghost use Rattle.dns_data.proofs.Names.{same_names};
 ghost use Rattle.dns_data.specs.Name.{name_cmp};
 ghost use Rattle.graph_form.specs.Report.{IsReport};
 ghost use Rattle.label_graph.specs.Pairs.{AreSame};
-ghost use Rattle.net_model.specs.Reading.{ground_of};
+ghost use Rattle.query_classes.proofs.TreeItems as items;
 ghost use Rattle.query_verdicts.specs.Carried.{whole_config};
-ghost use Rattle.query_verdicts.specs.Passed.{SomeClassPasses};
-ghost use Rattle.query_verdicts.specs.Values.{AreValues};
+ghost use Rattle.query_verdicts.specs.Passed.{IsReportFault, NonePasses};
+ghost use Rattle.query_verdicts.specs.Queries.{queries_of};
+ghost use Rattle.query_verdicts.specs.Subjects.{AreOfSubject};
 ghost use Rattle.verdict_book.specs.Lists.{IsWholeTree};
 
-use crate::naming::{Naming, OfConfig};
+use crate::naming::{Naming, OfNaming};
 use dns_data::{List, Name, NoMemory};
 use graph_form::Report;
 use label_graph::LabelGraph;
@@ -23,56 +24,55 @@ use std::alloc::Global;
 use std::marker::Model;
 use verdict_book::{Filed, JudgeShare, Judged, Work};
 
-/// A judge of the class tree of a configuration. Contracts see the configuration.
+/// A judge of the class tree of a subject, at or below the subject's name. Contracts see the configuration.
 #[derive(Drop)]
 pub struct Judge<'a, N: Naming> {
-    names: NameJudge<'a, OfConfig<N>>,
+    names: NameJudge<'a, OfNaming<N>>,
 }
 
 impl<'a, N: Naming> Model for Judge<'a, N> {
+    ghost use Rattle.class_judge.specs.Judge.{JudgesSubject};
     ghost use Rattle.net_model.specs.declared.config.Config.{Config};
-    ghost use Rattle.query_verdicts.specs.Carried.{whole_config};
-    ghost use Rattle.query_verdicts.specs.Values.{AreValues};
 
     ghost Value = { Config };
 
     ghost view = { λ judge. judge.names.config };
 
-    ghost invariant = { λ judge. AreValues (whole_config N.config N.rewrites) N.states N.children_of N.verdict_of };
+    ghost invariant = { λ judge. JudgesSubject judge.names N.subject N.states };
 }
 
 impl<'a, N: Naming + Send> Work for Judge<'a, N> {
-    type Item = TreeName<SubjectGround<OfConfig<N>>>;
+    type Item = TreeName<SubjectGround<OfNaming<N>>>;
 
     type Verdict = FiledVerdict;
 
-    ghost first_item = { [] };
+    ghost first_item = { N.subject.below };
 
     ghost children_of = { N.children_of };
 
     ghost verdict_of = { N.verdict_of };
 
-    fn first(&self) -> Result<TreeName<SubjectGround<OfConfig<N>>>, NoMemory> {
+    fn first(&self) -> Result<TreeName<SubjectGround<OfNaming<N>>>, NoMemory> {
         self.names.first()
     }
 
     fn judge(
         &self,
-        item: &TreeName<SubjectGround<OfConfig<N>>>,
+        item: &TreeName<SubjectGround<OfNaming<N>>>,
         share: &mut JudgeShare,
-    ) -> Result<Judged<TreeName<SubjectGround<OfConfig<N>>>, FiledVerdict>, NoMemory> {
+    ) -> Result<Judged<TreeName<SubjectGround<OfNaming<N>>>, FiledVerdict>, NoMemory> {
         share.raise();
         self.names.judge(item)
     }
 
     fn copy_item(
         &self,
-        item: &TreeName<SubjectGround<OfConfig<N>>>,
-    ) -> Result<TreeName<SubjectGround<OfConfig<N>>>, NoMemory> {
+        item: &TreeName<SubjectGround<OfNaming<N>>>,
+    ) -> Result<TreeName<SubjectGround<OfNaming<N>>>, NoMemory> {
         self.names.copy_item(item)
     }
 
-    ghost parents_apart = { N.apart };
+    ghost parents_apart = { items.parents_apart N.subject.ground N.subject.below N.children_of N.values.children };
 
     ghost equal_is_same = { same_names };
 }
@@ -87,36 +87,60 @@ impl<'a, N: Naming> Judge<'a, N> {
         rewrites: u32,
         states: u32,
     ) -> Result<Judge<'a, N>, NoMemory>
-        requires config { config.now ≡ N.config }
-        requires rewrites { rewrites ≡ N.rewrites }
+        requires subject { whole_config config.now rewrites ≡ N.subject }
         requires states { states ≡ N.states }
-        requires values { AreValues (whole_config N.config N.rewrites) N.states N.children_of N.verdict_of }
         ensures config { IfOk result (λ judge. judge ≡ config.now) }
     {
         let graphs = QueryGraphs::prepare(alloc, config, rewrites, states)?;
         let base = base_graph(alloc, &graphs)?;
-        let names = NameJudge::new(alloc, graphs, base, None, Name::root());
-        Ok(Judge { names })
+        Ok(Judge::new(alloc, graphs, base, None, Name::root()))
     }
 
-    /// The graph of the configuration's base names.
+    /// The judge with the graphs of the configuration's queries, the graph of the base names of the subject's ground,
+    /// that of the configuration's own base names where the ground is another, and the subject's name.
+    pub fn new(
+        alloc: Global,
+        graphs: QueryGraphs<'a>,
+        names: LabelGraph,
+        own: Option<LabelGraph>,
+        first: Name,
+    ) -> Judge<'a, N>
+        requires { AreOfSubject N.subject N.states graphs names own first }
+        ensures { result ≡ graphs.entry.config }
+    {
+        let names = NameJudge::new(alloc, graphs, names, own, first);
+        Judge { names }
+    }
+
+    /// The queries of the configuration, with what is learnt of it: for whoever shows their graphs beside the report.
+    pub fn queries(&self) -> &QueryGraphs<'a>
+        ensures { result.now ≡ queries_of N.subject N.states }
+    {
+        self.names.queries()
+    }
+
+    /// The graph of the names that the subject tells apart.
     pub fn base_names(&self) -> &LabelGraph
-        ensures { AreSame result.now (ground_of N.config) }
+        ensures { AreSame result.now N.subject.ground }
     {
         self.names.base_names()
     }
-}
 
-impl<'a, N: Naming + Send> Judge<'a, N> {
-    /// The report of the configuration, from the verdicts of all names of its class tree: the faults that some query
-    /// shows, each with its first query and type, and the first walk or pair of walks. Where the representative of some
-    /// class reaches more pairs of state and type than are looked at, it is `StatesPassed` with the first such one.
-    pub fn report(&self, filed: List<Filed<Judge<'a, N>>>) -> Result<Report, JudgeFault>
-        requires whole { IsWholeTree name_cmp [] N.children_of N.verdict_of filed }
+    /// The report of the subject, from the verdicts of all names of its class tree, as any work over its items files
+    /// them: the faults that some query at or below its name shows, each with its first query and type, and the first
+    /// walk or pair of walks. Where the representative of some class there reaches more pairs of state and type than
+    /// are looked at, it is `StatesPassed` with the first such one; else, where the name of some configured server
+    /// does, with the first such name, which is never so for a whole configuration.
+    pub fn report<W: Work<Item = TreeName<SubjectGround<OfNaming<N>>>, Verdict = FiledVerdict>>(
+        &self,
+        filed: List<Filed<W>>,
+    ) -> Result<Report, JudgeFault>
+        requires whole { IsWholeTree name_cmp N.subject.below N.children_of N.verdict_of filed }
         requires few { length filed < 2 ^ 31 }
-        ensures report { IfOk result (IsReport (whole_config N.config N.rewrites)) }
-        ensures none_passes { OnOk result (SomeClassPasses (whole_config N.config N.rewrites) N.states → ⊥) }
-        ensures fault { IfErr result (IsRefusalOf N.config N.rewrites N.states) }
+        ensures report { IfOk result (IsReport N.subject) }
+        ensures none_passes { OnOk result (NonePasses N.subject N.states) }
+        ensures fault { IfErr result (IsReportFault N.subject N.states) }
+        ensures whole_fault { whole_config N.subject.config N.subject.rewrites ≡ N.subject → IfErr result (IsWholeRefusal N.subject N.states) }
     {
         self.names.report(filed)
     }

@@ -8,6 +8,7 @@ use Rattle.config_load.specs.Reading.{Reading, Reads, Refuses, Misses, Unknown, 
 use Rattle.config_load.specs.declared.fault.LoadFault.{LoadFault}
 use Rattle.config_load.specs.declared.fault.LoadFault.TheVariants as load_faults
 use Rattle.dns_data.specs.declared.rr_type.RrType.{RrType}
+use Rattle.graph_form.specs.Report.{Subject}
 use Rattle.graph_form.specs.declared.report.ReportEntry.{ReportEntry}
 use Rattle.groot_line.specs.declared.fault.LineFault.{LineFault}
 use Rattle.groot_line.specs.declared.job.Job.{Job}
@@ -24,7 +25,11 @@ use Rattle.report_check.specs.declared.answer.Checked.{Checked}
 use Rattle.report_check.specs.declared.answer.Checked.TheVariants as checks
 use Rattle.report_check.specs.declared.answer.CheckFault.{CheckFault}
 use Rattle.report_check.specs.declared.answer.CheckFault.TheVariants as check_faults
+use Rattle.query_verdicts.specs.Carried.{whole_config}
+use Rattle.query_verdicts.specs.Passed.{IsFirstPassed, IsRefusedFor, NonePasses, SomeClassPasses}
+use Rattle.query_verdicts.specs.Queries.{most_states}
 use Rattle.same_answers.specs.Compared.{Compared}
+use Rattle.same_answers.specs.Passed.{IsFirstPassedInOne, SomeClassPassesInOne}
 use Rattle.same_answers.specs.declared.sameness.Sameness.{Sameness}
 use Rattle.same_answers.specs.declared.sameness.Sameness.TheVariants.{Same, Apart}
 use Rattle.zone_maker.specs.Source.{drill_told}
@@ -35,7 +40,7 @@ use Rattle.run_endings.specs.Ends.{IsNotLoaded}
 use Rattle.groot_run.specs.Counted.{EndsPast}
 use Rattle.groot_run.specs.JobEnds.{JobEnds, EndsOverConfig, EndsWithoutConfig}
 use Rattle.run_endings.specs.Endings.{OfReading, writes_nothing, no_memory}
-use Rattle.groot_run.specs.Outcome.{status_of, WithinNames, WithinStates, IsReported, Checks, ListsClasses, IsAnswerWith, Asks, IsDrilled, Drills, drill_names, drill_rewrites, TellsFindings, site_names, site_rewrites, answered_to, IsRechecked, Rechecks, GivesOf, Outcome, IsEnding, JobComesTo, NoJobReadFailed, Compares, ComparesWith, compared_of, told_same, IsScoped, WithinScope}
+use Rattle.groot_run.specs.Outcome.{status_of, HasMoreNames, WithinBudgets, WithinNames, WithinStates, IsReported, Checks, ListsClasses, IsAnswerWith, Asks, IsDrilled, Drills, drill_names, drill_rewrites, TellsFindings, site_names, site_rewrites, answered_to, IsRechecked, Rechecks, GivesOf, Outcome, IsEnding, JobComesTo, NoJobReadFailed, Compares, ComparesWith, HasMoreNamesInBoth, IsCompared, compared_of, same_names, told_same, HasMoreNamesAt, IsScoped, ScopesSubject, scope_names, scope_of}
 
 -- ---- by what the files give
 
@@ -84,24 +89,31 @@ module _ (told : FilesTold) (said : Result Job LineFault) (sites : List Site) (b
   of_entries [] out = tt
   of_entries (entry ∷ entries) out = tt
 
-  within : (config : Config) (limit rewrites : ℕ) (P : Type 0) (ending : Ending) → (P → Tells ending)
-      → WithinNames config limit (WithinStates config rewrites P ending) ending → Tells ending
-  within config limit rewrites P ending of (inl (more, is)) = subst Tells (sym is) refl
-  within config limit rewrites P ending of (inr (few, inl (query, first, is))) = subst Tells (sym is) refl
-  within config limit rewrites P ending of (inr (few, inr (none, ends))) = of ends
+  within : (limit : ℕ) (HasMore : Type 0) (IsRefused : List (List ℕ) → Type 0) (NoneIs P : Type 0) (ending : Ending) → (P → Tells ending)
+      → WithinBudgets limit HasMore IsRefused NoneIs P ending → Tells ending
+  within limit HasMore IsRefused NoneIs P ending of (inl (more, is)) = subst Tells (sym is) refl
+  within limit HasMore IsRefused NoneIs P ending of (inr (few, inl (query, refused, is))) = subst Tells (sym is) refl
+  within limit HasMore IsRefused NoneIs P ending of (inr (few, inr (none, ends))) = of ends
 
-  within_scope : (config : Config) (name : List (List ℕ)) (P : Type 0) (ending : Ending) → (P → Tells ending) → WithinScope config name P ending → Tells ending
-  within_scope config name P ending of (inl (more, is)) = subst Tells (sym is) refl
-  within_scope config name P ending of (inr (few, inl (query, refused, is))) = subst Tells (sym is) refl
-  within_scope config name P ending of (inr (few, inr (none, ends))) = of ends
+  of_classes : (config : Config) (limit rewrites : ℕ) (P : Type 0) (ending : Ending) → (P → Tells ending)
+      → WithinNames config limit (WithinStates config rewrites P ending) ending → Tells ending
+  of_classes config limit rewrites =
+      let subject = whole_config config rewrites in
+      within limit (HasMoreNames config limit) (IsFirstPassed subject most_states) (SomeClassPasses subject most_states → ⊥)
+
+  of_scope : (subject : Subject) (ending : Ending) → ScopesSubject subject sites ending → Tells ending
+  of_scope subject ending =
+      within scope_names (HasMoreNamesAt subject scope_names) (IsRefusedFor subject most_states) (NonePasses subject most_states) (IsScoped subject sites ending) ending
+      (λ is. subst Tells (sym is.as_text) (of_entries is.report.entries _))
 
   a_comparison : (two : Compared) (ending : Ending) → Compares two ending → Tells ending
-  a_comparison two ending (inl (more, is)) = subst Tells (sym is) refl
-  a_comparison two ending (inr (few, inl (query, first, is))) = subst Tells (sym is) refl
-  a_comparison two ending (inr (few, inr (none, is))) = by is.sameness is.as_line where
-    by : (sameness : Sameness) → ending ≡ told_same sameness → Tells ending
-    by (Same classes names) line = subst Tells (sym line) tt
-    by (Apart query rtype) line = subst Tells (sym line) tt
+  a_comparison two ending =
+      within same_names (HasMoreNamesInBoth two same_names) (IsFirstPassedInOne two) (SomeClassPassesInOne two → ⊥) (IsCompared two ending) ending
+      (λ is. by is.sameness is.as_line)
+    where
+      by : (sameness : Sameness) → ending ≡ told_same sameness → Tells ending
+      by (Same classes names) line = subst Tells (sym line) tt
+      by (Apart query rtype) line = subst Tells (sym line) tt
 
   a_list : (limit : ℕ) (config : Config) (ending : Ending) → ListsClasses limit config ending → Tells ending
   a_list limit config ending (inl (more, is)) = subst Tells (sym is) refl
@@ -132,19 +144,19 @@ module _ (told : FilesTold) (said : Result Job LineFault) (sites : List Site) (b
 
   of_task : (task : Task) (ending : Ending) (config : Config) → GivesOf task sites config ending → Tells ending
   of_task (tasks.Check workers classes rewrites) ending config =
-      within config classes rewrites (IsReported config rewrites ending) ending (λ is. subst Tells (sym is.as_text) (of_entries is.report.entries _))
+      of_classes config classes rewrites (IsReported config rewrites ending) ending (λ is. subst Tells (sym is.as_text) (of_entries is.report.entries _))
   of_task (tasks.Ask name rtype) ending config = an_answer name rtype config ending
   of_task (tasks.Classes classes) ending config = a_list classes config ending
   of_task tasks.Site ending config =
-      within config site_names site_rewrites (TellsFindings config sites ending) ending (λ are. subst Tells (sym are.as_text) tt)
+      of_classes config site_names site_rewrites (TellsFindings config sites ending) ending (λ are. subst Tells (sym are.as_text) tt)
   of_task (tasks.Scope name) ending config =
-      within_scope config name (IsScoped config name sites ending) ending (λ is. subst Tells (sym is.as_text) (of_entries is.report.entries _))
+      of_scope (scope_of config name) ending
 
   of_outcome : (files : FilesTold) (job : Result Job LineFault) (ending : Ending) → Outcome files job sites ending → Tells ending
   of_outcome files (Ok (jobs.OfConfig meta task)) ending = of_reading meta (GivesOf task sites) ending (of_task task ending) (conf meta files)
   of_outcome files (Ok (jobs.Drill zones workers)) ending =
       of_reading (codes "meta.json") (Drills zones) ending
-      (λ config. within config drill_names drill_rewrites (IsDrilled zones config ending) ending (λ is. subst Tells (sym is.as_line) (of_entries is.report.entries _)))
+      (λ config. of_classes config drill_names drill_rewrites (IsDrilled zones config ending) ending (λ is. subst Tells (sym is.as_line) (of_entries is.report.entries _)))
       (conf (codes "meta.json") (drill_told zones))
   of_outcome files (Ok (jobs.Recheck meta report)) ending =
       of_reading meta (Rechecks files report) ending

@@ -21,13 +21,17 @@ use Rattle.groot_line.specs.declared.job.Task.TheVariants as tasks
 use Rattle.plain_resolver.specs.Passed.{most_walks_followed}
 use Rattle.run_endings.specs.declared.ending.Ending.{Ending}
 use Rattle.run_endings.specs.Endings.{OfReading, too_many_to_learn}
-use Rattle.groot_run.specs.Outcome.{reported, listed, WithinNames, WithinStates, IsReported, too_many_states, Checks, IsClassList, ListsClasses, ask_rewrites, IsAnswerWith, Asks, walks_written, GivesOf, Outcome, Drills, IsDrilled, drilled, drill_names, drill_rewrites, answered_to, IsRechecked, Rechecks, TellsFindings, ShowsClasses, told_of_views, site_names, site_rewrites, Compares, ComparesWith, compared_of, told_same, IsScoped, Scopes, WithinScope, scope_of, scope_written}
+use Rattle.groot_run.specs.Outcome.{reported, listed, HasMoreNames, WithinNames, WithinStates, IsReported, Checks, IsClassList, ListsClasses, ask_rewrites, IsAnswerWith, Asks, walks_written, GivesOf, Outcome, Drills, IsDrilled, drilled, drill_names, drill_rewrites, answered_to, IsRechecked, Rechecks, TellsFindings, ShowsClasses, told_of_views, site_names, site_rewrites, Compares, ComparesWith, HasMoreNamesInBoth, IsCompared, compared_of, same_names, told_same, HasMoreNamesAt, IsScoped, ScopesSubject, scope_names, scope_of, scope_written}
 use Rattle.report_check.proofs.OneAnswer.{only_answer}
 use Rattle.same_answers.specs.Compared.{Compared}
+use Rattle.same_answers.specs.Passed.{IsFirstPassedInOne, SomeClassPassesInOne}
 use Rattle.same_answers.proofs.OneSameness.{one_sameness, one_passed as one_passed_in_one}
+use Rattle.graph_form.specs.Report.{Subject}
 use Rattle.graph_form.specs.declared.report.Report.{Report}
 use Rattle.job_scope.proofs.OneRefusal.{one_refusal, none_refused}
+use Rattle.groot_run.proofs.Budgets.{one_within as one_within_budgets}
 use Rattle.groot_run.proofs.OneReport.{one_report}
+use Rattle.query_verdicts.specs.Passed.{IsFirstPassed, IsRefusedFor, NonePasses, SomeClassPasses}
 use Rattle.query_verdicts.proofs.OnePassed.{one_passed}
 use Rattle.query_verdicts.specs.Queries.{most_states}
 use Rattle.groot_run.proofs.OneClassList.{one_class_list}
@@ -43,66 +47,45 @@ one_within config limit P Q a b same (inl p) (inr q) = absurd (q.0 p.0)
 one_within config limit P Q a b same (inr p) (inl q) = absurd (p.0 q.0)
 one_within config limit P Q a b same (inr p) (inr q) = same p.1 q.1
 
--- two endings are equal that are told by whether a representative reaches too many pairs, if those told otherwise are
-one_within_states : (config : Config) (rewrites : ℕ) (P Q : Type 0) (a b : Ending) → (P → Q → a ≡ b)
-    → WithinStates config rewrites P a → WithinStates config rewrites Q b → a ≡ b
-one_within_states config rewrites P Q a b same (inl (query, first, is)) (inl (other, also, was)) =
-    is ∙ ap too_many_states (one_passed (whole_config config rewrites) most_states query other first also) ∙ sym was
-one_within_states config rewrites P Q a b same (inl (query, first, is)) (inr q) = absurd (q.0 (first.class, query, first.passes))
-one_within_states config rewrites P Q a b same (inr p) (inl (other, also, was)) = absurd (p.0 (also.class, other, also.passes))
-one_within_states config rewrites P Q a b same (inr p) (inr q) = same p.1 q.1
+-- a command gives one thing that judges the classes of a configuration
+one_within_states : (config : Config) (limit rewrites : ℕ) (P Q : Type 0) (a b : Ending) → (P → Q → a ≡ b)
+    → WithinNames config limit (WithinStates config rewrites P a) a → WithinNames config limit (WithinStates config rewrites Q b) b → a ≡ b
+one_within_states config limit rewrites =
+    let subject = whole_config config rewrites in
+    one_within_budgets limit (HasMoreNames config limit) (IsFirstPassed subject most_states) (SomeClassPasses subject most_states → ⊥)
+    (one_passed subject most_states) (λ none query first. none (first.class, query, first.passes))
 
 one_check : (limit rewrites : ℕ) (config : Config) (a b : Ending) → Checks limit rewrites config a → Checks limit rewrites config b → a ≡ b
 one_check limit rewrites config a b =
-    one_within config limit (WithinStates config rewrites (IsReported config rewrites a) a) (WithinStates config rewrites (IsReported config rewrites b) b) a b
-    (one_within_states config rewrites (IsReported config rewrites a) (IsReported config rewrites b) a b
-    (λ p q. p.as_text ∙ ap reported (one_report (whole_config config rewrites) p.report q.report p.is_report q.is_report) ∙ sym q.as_text))
+    one_within_states config limit rewrites (IsReported config rewrites a) (IsReported config rewrites b) a b
+    (λ p q. p.as_text ∙ ap reported (one_report (whole_config config rewrites) p.report q.report p.is_report q.is_report) ∙ sym q.as_text)
 
 one_drill : (zones : ℕ) (config : Config) (a b : Ending) → Drills zones config a → Drills zones config b → a ≡ b
 one_drill zones config a b =
-    one_within config drill_names (WithinStates config drill_rewrites (IsDrilled zones config a) a) (WithinStates config drill_rewrites (IsDrilled zones config b) b) a b
-    (one_within_states config drill_rewrites (IsDrilled zones config a) (IsDrilled zones config b) a b
-    (λ p q. p.as_line ∙ ap (drilled zones config) (one_report (whole_config config drill_rewrites) p.report q.report p.is_report q.is_report) ∙ sym q.as_line))
+    one_within_states config drill_names drill_rewrites (IsDrilled zones config a) (IsDrilled zones config b) a b
+    (λ p q. p.as_line ∙ ap (drilled zones config) (one_report (whole_config config drill_rewrites) p.report q.report p.is_report q.is_report) ∙ sym q.as_line)
 
 one_told : (sites : List Site) (config : Config) (a b : Ending) → ShowsClasses sites config a → ShowsClasses sites config b → a ≡ b
 one_told sites config a b =
-    one_within config site_names (WithinStates config site_rewrites (TellsFindings config sites a) a) (WithinStates config site_rewrites (TellsFindings config sites b) b) a b
-    (one_within_states config site_rewrites (TellsFindings config sites a) (TellsFindings config sites b) a b
-    (λ p q. p.as_text ∙ ap (told_of_views sites) (one_list_of_views (whole_config config site_rewrites) p.views q.views p.are_views q.are_views) ∙ sym q.as_text))
+    one_within_states config site_names site_rewrites (TellsFindings config sites a) (TellsFindings config sites b) a b
+    (λ p q. p.as_text ∙ ap (told_of_views sites) (one_list_of_views (whole_config config site_rewrites) p.views q.views p.are_views q.are_views) ∙ sym q.as_text)
 
 -- two configurations that are compared give one thing
 one_comparison : (two : Compared) (a b : Ending) → Compares two a → Compares two b → a ≡ b
-one_comparison two a b (inl p) (inl q) = p.1 ∙ sym q.1
-one_comparison two a b (inl p) (inr q) = absurd (q.0 p.0)
-one_comparison two a b (inr p) (inl q) = absurd (p.0 q.0)
-one_comparison two a b (inr (few, inl (query, first, is))) (inr (none, inl (other, also, was))) =
-    is ∙ ap too_many_states (one_passed_in_one two query other first also) ∙ sym was
-one_comparison two a b (inr (few, inl (query, first, is))) (inr (also, inr (clear, q))) = absurd (clear (first.class, query, first.passes))
-one_comparison two a b (inr (few, inr (clear, p))) (inr (also, inl (query, first, is))) = absurd (clear (first.class, query, first.passes))
-one_comparison two a b (inr (few, inr (clear, p))) (inr (also, inr (none, q))) =
-    p.as_line ∙ ap told_same (one_sameness two p.sameness q.sameness p.is_sameness q.is_sameness) ∙ sym q.as_line
+one_comparison two a b =
+    one_within_budgets same_names (HasMoreNamesInBoth two same_names) (IsFirstPassedInOne two) (SomeClassPassesInOne two → ⊥)
+    (one_passed_in_one two) (λ none query first. none (first.class, query, first.passes)) (IsCompared two a) (IsCompared two b) a b
+    (λ p q. p.as_line ∙ ap told_same (one_sameness two p.sameness q.sameness p.is_sameness q.is_sameness) ∙ sym q.as_line)
 
--- a scope gives one thing by how many names it has and by what passes
-one_within_scope : (config : Config) (name : Labels) (P Q : Type 0) (a b : Ending) → (P → Q → a ≡ b)
-    → WithinScope config name P a → WithinScope config name Q b → a ≡ b
-one_within_scope config name P Q a b same (inl p) (inl q) = p.1 ∙ sym q.1
-one_within_scope config name P Q a b same (inl p) (inr q) = absurd (q.0 p.0)
-one_within_scope config name P Q a b same (inr p) (inl q) = absurd (p.0 q.0)
-one_within_scope config name P Q a b same (inr (few, inl (query, refused, is))) (inr (none, inl (other, also, was))) =
-    is ∙ ap too_many_states (one_refusal (scope_of config name) most_states query other refused also) ∙ sym was
-one_within_scope config name P Q a b same (inr (few, inl (query, refused, is))) (inr (also, inr (clear, q))) =
-    absurd (none_refused (scope_of config name) most_states query clear refused)
-one_within_scope config name P Q a b same (inr (few, inr (clear, p))) (inr (also, inl (query, refused, is))) =
-    absurd (none_refused (scope_of config name) most_states query clear refused)
-one_within_scope config name P Q a b same (inr (few, inr (clear, p))) (inr (also, inr (none, q))) = same p q
-
-one_scope : (name : Labels) (sites : List Site) (config : Config) (a b : Ending) → Scopes name sites config a → Scopes name sites config b → a ≡ b
-one_scope name sites config a b =
-    one_within_scope config name (IsScoped config name sites a) (IsScoped config name sites b) a b
+-- and so does a subject with its scope
+one_scope : (subject : Subject) (sites : List Site) (a b : Ending) → ScopesSubject subject sites a → ScopesSubject subject sites b → a ≡ b
+one_scope subject sites a b =
+    one_within_budgets scope_names (HasMoreNamesAt subject scope_names) (IsRefusedFor subject most_states) (NonePasses subject most_states)
+    (one_refusal subject most_states) (λ none query refused. none_refused subject most_states query none refused) (IsScoped subject sites a) (IsScoped subject sites b) a b
     (λ p q.
     p.as_text
-    ∙ ap (λ (report : Report). scope_written report name sites p.views) (one_report (scope_of config name) p.report q.report p.is_report q.is_report)
-    ∙ ap (scope_written q.report name sites) (one_list_of_views (scope_of config name) p.views q.views p.are_views q.are_views)
+    ∙ ap (λ (report : Report). scope_written report subject.below sites p.views) (one_report subject p.report q.report p.is_report q.is_report)
+    ∙ ap (scope_written q.report subject.below sites) (one_list_of_views subject p.views q.views p.are_views q.are_views)
     ∙ sym q.as_text)
 
 one_list : (limit : ℕ) (config : Config) (a b : Ending) → ListsClasses limit config a → ListsClasses limit config b → a ≡ b
@@ -158,7 +141,7 @@ one_of_task (tasks.Check workers classes rewrites) sites = one_check classes rew
 one_of_task (tasks.Ask name rtype) sites = one_asked name rtype
 one_of_task (tasks.Classes classes) sites = one_list classes
 one_of_task tasks.Site sites = one_told sites
-one_of_task (tasks.Scope name) sites = one_scope name sites
+one_of_task (tasks.Scope name) sites = λ config. one_scope (scope_of config name) sites
 
 -- two outcomes of a job, by the same that is told of the files, are equal
 pub one_outcome : (told : FilesTold) (job : Result Job LineFault) (sites : List Site) (a b : Ending) → Outcome told job sites a → Outcome told job sites b → a ≡ b

@@ -17,4 +17,3 @@ pub mod ClassRows
 pub mod Counted
 pub mod JobEnds
 pub mod ShownClasses
-pub mod ScopeJudged

@@ -41,7 +41,7 @@ use Rattle.run_endings.specs.declared.ending.Ending.{Ending}
 use Rattle.run_endings.specs.declared.status.Status.{Status}
 use Rattle.run_endings.specs.Endings.{OfReading, with_output, without_output, read_failed, no_memory, too_many_names, too_many_states as too_many_states_than, too_many_to_learn}
 use Rattle.run_endings.specs.declared.status.Status.TheVariants.{Clean, Faults, Usage, Refused, Walks}
-use Rattle.job_scope.specs.Scoped.{scoped, widened}
+use Rattle.job_scope.specs.Scoped.{scoped}
 use Rattle.same_answers.specs.Compared.{Compared, joint}
 use Rattle.same_answers.specs.Passed.{IsFirstPassedInOne, SomeClassPassesInOne}
 use Rattle.same_answers.specs.Sameness.{IsSameness}
@@ -101,6 +101,13 @@ abbrev pub scope_written : Report → Labels → List Site → List View → End
 scope_written report name sites views = with_output (status_of report.entries) (scope_text report name (map (told_by views) sites))
 
 -- ---- the outcome of a job
+
+-- What is given where names are judged: where there are no more names than the limit, and no query is refused since it
+-- reaches more pairs of state and type than it may, the run ends so.
+abbrev pub WithinBudgets : ℕ → Type 0 → (Labels → Type 0) → Type 0 → Type 0 → Ending → Type 0
+WithinBudgets limit HasMore IsRefused NoneIs EndsSo ending =
+    (HasMore × (ending ≡ too_many_names limit))
+    ⊎ ((HasMore → ⊥) × (((query : Labels) × IsRefused query × (ending ≡ too_many_states query)) ⊎ (NoneIs × EndsSo)))
 
 -- the class tree of the configuration has more names than the limit
 abbrev pub HasMoreNames : Config → ℕ → Type 0
@@ -288,11 +295,7 @@ HasMoreNamesInBoth two limit = HasMoreThan (IsInTree (joint two)) limit
 -- reaches more pairs of state and type than it may in one of them, the run ends so. Of those that do the first in class
 -- order is named.
 abbrev pub WithinBoth : Compared → Type 0 → Ending → Type 0
-WithinBoth two EndsSo ending =
-    (HasMoreNamesInBoth two same_names × (ending ≡ too_many_names same_names))
-    ⊎ ((HasMoreNamesInBoth two same_names → ⊥)
-    × (((query : Labels) × IsFirstPassedInOne two query × (ending ≡ too_many_states query))
-    ⊎ ((SomeClassPassesInOne two → ⊥) × EndsSo)))
+WithinBoth two = WithinBudgets same_names (HasMoreNamesInBoth two same_names) (IsFirstPassedInOne two) (SomeClassPassesInOne two → ⊥)
 
 -- the run ends with what is told of the two: that each query of at most 255 octets that both bound has the same
 -- outcomes in both with each type, or the first one that hasn't
@@ -324,32 +327,32 @@ scope_rewrites = usual_rewrites
 abbrev pub scope_of : Config → Labels → Subject
 scope_of config name = scoped config scope_rewrites name
 
--- the class tree has more names at or below this one than the limit, where the prefixes of this one are told apart besides
-abbrev pub HasMoreNamesBelow : Config → Labels → ℕ → Type 0
-HasMoreNamesBelow config name limit = HasMoreThan (IsInPart (widened config name) name) limit
+-- the class tree of a subject has more names at or below its name than the limit
+abbrev pub HasMoreNamesAt : Subject → ℕ → Type 0
+HasMoreNamesAt subject limit = HasMoreThan (IsInPart subject.ground subject.below) limit
 
--- What `scope` gives: where the scope has no more names than it may, and neither a representative in it nor the name of
--- a server reaches more pairs of state and type than it may, the run ends so. Of those that do the first representative
--- in class order is named, or else the first server.
-abbrev pub WithinScope : Config → Labels → Type 0 → Ending → Type 0
-WithinScope config name EndsSo ending =
-    (HasMoreNamesBelow config name scope_names × (ending ≡ too_many_names scope_names))
-    ⊎ ((HasMoreNamesBelow config name scope_names → ⊥)
-    × (((refused : Labels) × IsRefusedFor (scope_of config name) most_states refused × (ending ≡ too_many_states refused))
-    ⊎ (NonePasses (scope_of config name) most_states × EndsSo)))
+-- What is given of a subject: where its class tree has no more names at or below its name than the limit, and neither a
+-- representative there nor the name of a server reaches more pairs of state and type than it may, the run ends so. Of those
+-- that do the first representative in class order is named, or else the first server.
+abbrev pub WithinSubject : Subject → ℕ → Type 0 → Ending → Type 0
+WithinSubject subject limit = WithinBudgets limit (HasMoreNamesAt subject limit) (IsRefusedFor subject most_states) (NonePasses subject most_states)
 
--- the run ends with the report of the scope, and with what the checks tell that were shown the views of all its classes
-pub record IsScoped (config : Config) (name : Labels) (sites : List Site) (ending : Ending) : Type 0 where
+-- the run ends with the report of a subject, and with what the checks tell that were shown the views of all its classes
+pub record IsScoped (subject : Subject) (sites : List Site) (ending : Ending) : Type 0 where
   pub report : Report
   pub views : List View
-  pub is_report : IsReport (scope_of config name) report
-  pub are_views : AreViews (scope_of config name) views
-  pub as_text : ending ≡ scope_written report name sites views
+  pub is_report : IsReport subject report
+  pub are_views : AreViews subject views
+  pub as_text : ending ≡ scope_written report subject.below sites views
 
--- what `scope` gives of a configuration: the report and the findings on the queries at or below a name, unless too many
--- names are there, or a query there or a server's name reaches too many pairs of state and type
+-- what `scope` gives of a subject: the report and the findings, unless too many names are there, or a query there or a
+-- server's name reaches too many pairs of state and type
+abbrev pub ScopesSubject : Subject → List Site → Ending → Type 0
+ScopesSubject subject sites ending = WithinSubject subject scope_names (IsScoped subject sites ending) ending
+
+-- what `scope` gives of a configuration: of the queries at or below a name
 abbrev pub Scopes : Labels → List Site → Config → Ending → Type 0
-Scopes name sites config ending = WithinScope config name (IsScoped config name sites ending) ending
+Scopes name sites config = ScopesSubject (scope_of config name) sites
 
 -- what a task gives of its configuration, by the checks that the operator brings
 abbrev pub GivesOf : Task → List Site → Config → Ending → Type 0

@@ -23,6 +23,7 @@ use net_model::Config;
 use run_endings::Ending;
 use site_checks::SiteCheck;
 use std::alloc::Global;
+use std::mem::forget;
 use std::sync::Wait;
 use std::thread::Threads;
 
@@ -44,7 +45,12 @@ pub(crate) fn of_job<F: Files, G: Gate + Sync, R: Threads + Wait + Sync>(
 {
     match job {
         Job::OfConfig { meta, task } => match configuration(alloc, files, meta.as_str()) {
-            Ok(config) => of_task(rt, alloc, &config, task, gate, sites),
+            Ok(config) => {
+                let ending = of_task(rt, alloc, &config, task, gate, sites);
+                // The run ends so, and the records of all zones with it: none is taken apart.
+                forget(config);
+                ending
+            }
             Err(ending) => ending,
         },
         Job::Drill { n, workers } => drill(rt, alloc, *n, *workers, gate),

@@ -1,9 +1,9 @@
-//! The classes of a configuration judged, and their report.
+//! The classes of a subject judged, and its report.
 
-ghost use Rattle.std.specs.Prelude.{◌≡◌};
+ghost use Rattle.std.specs.Prelude.{◌≡◌, []};
 ghost use Rattle.query_verdicts.specs.Carried.{whole_config};
 ghost use Rattle.query_verdicts.specs.Queries.{most_states};
-ghost use Rattle.query_verdicts.specs.Values.{AreValues};
+ghost use Rattle.query_verdicts.specs.Subjects.{IsCovering};
 ghost use Rattle.groot_run.specs.Judged.{AreLimits, IsJudged};
 
 use crate::counted::{config_redirects, count_redirected};
@@ -17,6 +17,7 @@ use query_verdicts::MOST_STATES;
 use run_endings::Ending;
 use std::alloc::Global;
 use std::marker::Brand;
+use std::mem::forget;
 use std::sync::Wait;
 use std::thread::Threads;
 use steal_pool::{PoolFault, run_tree};
@@ -40,7 +41,7 @@ pub(crate) fn report_of<G: Gate + Sync, R: Threads + Wait + Sync>(
     gate: &G,
 ) -> Result<Report, Ending>
     requires { AreLimits limits }
-    ensures { IsJudged limits.classes limits.rewrites config.now result }
+    ensures { IsJudged limits.classes (whole_config config.now limits.rewrites) result }
 {
     judged::<Brand, G, R>(rt, alloc, config, limits, gate)
 }
@@ -54,12 +55,17 @@ fn judged<N: Naming + Send + Sync, G: Gate + Sync, R: Threads + Wait + Sync>(
     gate: &G,
 ) -> Result<Report, Ending>
     requires limits { AreLimits limits }
-    requires name { (config.now ≡ N.config) × (limits.rewrites ≡ N.rewrites) × (most_states ≡ N.states) }
-    requires values { AreValues (whole_config N.config N.rewrites) N.states N.children_of N.verdict_of }
-    ensures { IsJudged limits.classes N.rewrites N.config result }
+    requires name { (whole_config config.now limits.rewrites ≡ N.subject) × (most_states ≡ N.states) }
+    requires covering { IsCovering N.subject }
+    ensures { IsJudged limits.classes N.subject result }
 {
     match Judge::<N>::prepare(alloc, config, limits.rewrites, MOST_STATES) {
-        Ok(judge) => counted(rt, alloc, config, &judge, limits, gate),
+        Ok(judge) => {
+            let answer = counted(rt, alloc, config, &judge, limits, gate);
+            // The run ends with this answer, and the trees of all zones with it: none is taken apart.
+            forget(judge);
+            answer
+        }
         Err(NoMemory) => Err(Ending::no_memory()),
     }
 }
@@ -75,9 +81,10 @@ fn counted<N: Naming + Send + Sync, G: Gate + Sync, R: Threads + Wait + Sync>(
     gate: &G,
 ) -> Result<Report, Ending>
     requires limits { AreLimits limits }
+    requires whole { N.subject.below ≡ [] }
     requires states { most_states ≡ N.states }
-    requires values { AreValues (whole_config N.config N.rewrites) N.states N.children_of N.verdict_of }
-    ensures { IsJudged limits.classes N.rewrites N.config result }
+    requires covering { IsCovering N.subject }
+    ensures { IsJudged limits.classes N.subject result }
 {
     match count_redirected(
         alloc,
@@ -90,8 +97,9 @@ fn counted<N: Naming + Send + Sync, G: Gate + Sync, R: Threads + Wait + Sync>(
     }
 }
 
-/// What a judge tells of its configuration, once it has judged its class tree.
-fn told<N: Naming + Send + Sync, G: Gate + Sync, R: Threads + Wait + Sync>(
+/// What a judge tells of its subject, once it has judged the names of the class tree at or below the subject's name. It is
+/// the same for every number of workers and every schedule.
+pub(crate) fn told<N: Naming + Send + Sync, G: Gate + Sync, R: Threads + Wait + Sync>(
     rt: &R,
     alloc: Global,
     judge: &Judge<'_, N>,
@@ -100,10 +108,10 @@ fn told<N: Naming + Send + Sync, G: Gate + Sync, R: Threads + Wait + Sync>(
 ) -> Result<Report, Ending>
     requires limits { AreLimits limits }
     requires states { most_states ≡ N.states }
-    requires values { AreValues (whole_config N.config N.rewrites) N.states N.children_of N.verdict_of }
-    ensures { IsJudged limits.classes N.rewrites N.config result }
+    requires covering { IsCovering N.subject }
+    ensures { IsJudged limits.classes N.subject result }
 {
-    laws::tree_is_reached();
+    laws::part_is_reached();
     match run_tree(rt, alloc, judge, limits.workers, limits.classes, gate) {
         Ok(filed) => match judge.report(filed) {
             Ok(report) => Ok(report),

@@ -1,3 +1,2 @@
 pub mod OneRefusal
-pub mod ScopeLaw
 pub mod Scopes

@@ -16,6 +16,9 @@ ghost use Rattle.net_model.specs.declared.fault.Fault.{Fault};
 ghost use Rattle.query_classes.specs.Children.{AreChildren};
 ghost use Rattle.verdict_book.specs.Items.{ReachesMore};
 
+use class_judge::laws as judge_laws;
+use query_verdicts::laws;
+
 /// Some query of at most 255 octets at or below a name shows a fault if and only if the representative of some class of the
 /// name's scope does.
 pub fn scope_law()
@@ -35,11 +38,15 @@ pub fn one_refusal()
 pub fn values_exist()
     ensures { (config : Config) (rewrites states : ℕ) (name : Labels) → (children_of : Labels → List Labels) × (verdict_of : Labels → NameVerdict ClassVerdict)
         × AreValues (scoped config rewrites name) states children_of verdict_of }
-{}
+{
+    laws::values_exist();
+}
 
 /// More items than the limit are reached from a name if and only if its scope has more names.
 pub fn scope_is_reached()
     ensures { (config : Config) (name : Labels) (children_of : Labels → List Labels) → IsName name
         → ((above : Labels) → AreChildren (widened config name) above (children_of above))
         → (limit : ℕ) → ReachesMore name children_of limit ↔ HasMoreThan (IsInPart (widened config name) name) limit }
-{}
+{
+    judge_laws::part_is_reached();
+}

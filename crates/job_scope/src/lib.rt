@@ -7,16 +7,16 @@
 //! name. The class at the place of differing answers stays that of the configuration's own base names, and so does the
 //! representative of an overlong rewrite.
 //!
+//! The judging is class_judge's, whose `Judge` a `ScopeJudge` lends to whoever judges subjects of both kinds.
+//!
 //! Costs: `prepare` makes what query_verdicts prepares of the whole configuration, and two graphs of base names, once.
 //! What is judged is the names of the scope alone. What a verdict and a report cost is said in query_verdicts.
 #![tactic(auto)]
 
 pub mod laws;
-mod naming;
 mod scope_judge;
 
-pub use naming::{OfScope, ScopeNaming};
-pub use query_verdicts::{
+pub use class_judge::{
     ClassVerdict as ScopeEnd, FiledVerdict, JudgeFault, NameVerdict as ScopeVerdict,
 };
 pub use scope_judge::ScopeJudge;

@@ -4,21 +4,18 @@ ghost use Rattle.std.specs.Prelude.{◌≡◌, ◌<◌, ◌^◌, length, IfOk, I
 ghost use Rattle.dns_data.proofs.Names.{same_names};
 ghost use Rattle.dns_data.specs.Name.{name_cmp};
 ghost use Rattle.graph_form.specs.Report.{IsReport};
-ghost use Rattle.job_scope.specs.Scoped.{scoped, widened};
-ghost use Rattle.label_graph.specs.Pairs.{AreSame};
+ghost use Rattle.job_scope.specs.Scoped.{IsScopeOf, scoped};
+ghost use Rattle.query_classes.proofs.TreeItems as items;
 ghost use Rattle.query_verdicts.specs.Passed.{NonePasses, IsReportFault};
-ghost use Rattle.query_verdicts.specs.Queries.{limited_to};
-ghost use Rattle.query_verdicts.specs.Values.{AreValues};
 ghost use Rattle.verdict_book.specs.Lists.{IsWholeTree};
 
-use crate::naming::{OfScope, ScopeNaming};
+use class_judge::{Judge, Naming, OfNaming};
 use dns_data::{List, Name, NoMemory};
 use graph_form::Report;
-use label_graph::LabelGraph;
 use net_model::Config;
 use query_classes::TreeName;
 use query_verdicts::{
-    FiledVerdict, JudgeFault, NameJudge, QueryGraphs, SubjectGround, base_graph, joint_base_graph,
+    FiledVerdict, JudgeFault, QueryGraphs, SubjectGround, base_graph, joint_base_graph,
 };
 use std::alloc::Global;
 use std::marker::Model;
@@ -27,58 +24,57 @@ use verdict_book::{Filed, JudgeShare, Judged, Work};
 /// A judge of the scope of a name in a configuration: of the names at or below it that the configuration's base names
 /// and the prefixes of the name tell apart. Contracts see the configuration.
 #[derive(Drop)]
-pub struct ScopeJudge<'a, N: ScopeNaming> {
-    names: NameJudge<'a, OfScope<N>>,
+pub struct ScopeJudge<'a, N: Naming> {
+    judge: Judge<'a, N>,
 }
 
-impl<'a, N: ScopeNaming> Model for ScopeJudge<'a, N> {
+impl<'a, N: Naming> Model for ScopeJudge<'a, N> {
+    ghost use Rattle.job_scope.specs.Scoped.{IsScopeOf};
     ghost use Rattle.net_model.specs.declared.config.Config.{Config};
-    ghost use Rattle.job_scope.specs.Scoped.{JudgesScope};
 
     ghost Value = { Config };
 
-    ghost view = { λ judge. judge.names.config };
+    ghost view = { λ scope. scope.judge };
 
-    ghost invariant = { λ judge. JudgesScope judge.names N.config N.rewrites N.states N.scope N.children_of N.verdict_of };
+    ghost invariant = { λ scope. IsScopeOf scope.judge N.subject };
 }
 
-impl<'a, N: ScopeNaming + Send> Work for ScopeJudge<'a, N> {
-    type Item = TreeName<SubjectGround<OfScope<N>>>;
+impl<'a, N: Naming + Send> Work for ScopeJudge<'a, N> {
+    type Item = TreeName<SubjectGround<OfNaming<N>>>;
 
     type Verdict = FiledVerdict;
 
-    ghost first_item = { N.scope };
+    ghost first_item = { N.subject.below };
 
     ghost children_of = { N.children_of };
 
     ghost verdict_of = { N.verdict_of };
 
-    fn first(&self) -> Result<TreeName<SubjectGround<OfScope<N>>>, NoMemory> {
-        self.names.first()
+    fn first(&self) -> Result<TreeName<SubjectGround<OfNaming<N>>>, NoMemory> {
+        self.judge.first()
     }
 
     fn judge(
         &self,
-        item: &TreeName<SubjectGround<OfScope<N>>>,
+        item: &TreeName<SubjectGround<OfNaming<N>>>,
         share: &mut JudgeShare,
-    ) -> Result<Judged<TreeName<SubjectGround<OfScope<N>>>, FiledVerdict>, NoMemory> {
-        share.raise();
-        self.names.judge(item)
+    ) -> Result<Judged<TreeName<SubjectGround<OfNaming<N>>>, FiledVerdict>, NoMemory> {
+        self.judge.judge(item, share)
     }
 
     fn copy_item(
         &self,
-        item: &TreeName<SubjectGround<OfScope<N>>>,
-    ) -> Result<TreeName<SubjectGround<OfScope<N>>>, NoMemory> {
-        self.names.copy_item(item)
+        item: &TreeName<SubjectGround<OfNaming<N>>>,
+    ) -> Result<TreeName<SubjectGround<OfNaming<N>>>, NoMemory> {
+        self.judge.copy_item(item)
     }
 
-    ghost parents_apart = { N.apart };
+    ghost parents_apart = { items.parents_apart N.subject.ground N.subject.below N.children_of N.values.children };
 
     ghost equal_is_same = { same_names };
 }
 
-impl<'a, N: ScopeNaming> ScopeJudge<'a, N> {
+impl<'a, N: Naming> ScopeJudge<'a, N> {
     /// The judge of the scope of a name in a configuration, whose queries may use this many rewrites, and of each of
     /// which no more pairs of state and type are looked at than the limit. The name may be one that no record names. The
     /// trees of all zones, the graph of each server's name, the regions of names and the graphs of base names are made
@@ -90,11 +86,8 @@ impl<'a, N: ScopeNaming> ScopeJudge<'a, N> {
         states: u32,
         scope: &Name,
     ) -> Result<ScopeJudge<'a, N>, NoMemory>
-        requires config { config.now ≡ N.config }
-        requires rewrites { rewrites ≡ N.rewrites }
+        requires subject { scoped config.now rewrites scope.now ≡ N.subject }
         requires states { states ≡ N.states }
-        requires scope { scope.now ≡ N.scope }
-        requires values { AreValues (scoped N.config N.rewrites N.scope) N.states N.children_of N.verdict_of }
         ensures config { IfOk result (λ judge. judge ≡ config.now) }
     {
         // The labels are read, so that the length of the name is known here.
@@ -103,40 +96,32 @@ impl<'a, N: ScopeNaming> ScopeJudge<'a, N> {
         let graphs = QueryGraphs::prepare(alloc, config, rewrites, states)?;
         let own = base_graph(alloc, &graphs)?;
         let names = joint_base_graph(alloc, &[&graphs], &[scope])?;
-        let names = NameJudge::new(alloc, graphs, names, Some(own), first);
-        Ok(ScopeJudge { names })
+        let judge = Judge::new(alloc, graphs, names, Some(own), first);
+        Ok(ScopeJudge { judge })
+    }
+
+    /// The judge of the scope's class tree.
+    pub fn as_judge(&self) -> &Judge<'a, N>
+        ensures { result.now ≡ self.now }
+    {
+        &self.judge
     }
 }
 
-impl<'a, N: ScopeNaming> ScopeJudge<'a, N> {
-    /// The queries of the configuration, with what is learnt of it: for whoever shows their graphs beside the report.
-    pub fn queries(&self) -> &QueryGraphs<'a>
-        ensures { result.now ≡ limited_to N.config N.rewrites N.states }
-    {
-        self.names.queries()
-    }
-
-    /// The graph of the names that the scope tells apart.
-    pub fn base_names(&self) -> &LabelGraph
-        ensures { AreSame result.now (widened N.config N.scope) }
-    {
-        self.names.base_names()
-    }
-}
-
-impl<'a, N: ScopeNaming + Send> ScopeJudge<'a, N> {
+impl<'a, N: Naming + Send> ScopeJudge<'a, N> {
     /// The report of the scope, from the verdicts of all its names: the faults that some query at or below the scope's
     /// name shows, each with its first query and type, and the first walk or pair of walks. If the representative of
     /// some class at or below that name reaches more pairs of state and type than are looked at, it is `StatesPassed`
     /// with the first such one; if none does, but the name of some configured server, with the first such server's
     /// name.
     pub fn report(&self, filed: List<Filed<ScopeJudge<'a, N>>>) -> Result<Report, JudgeFault>
-        requires whole { IsWholeTree name_cmp N.scope N.children_of N.verdict_of filed }
+        requires whole { IsWholeTree name_cmp N.subject.below N.children_of N.verdict_of filed }
         requires few { length filed < 2 ^ 31 }
-        ensures report { IfOk result (IsReport (scoped N.config N.rewrites N.scope)) }
-        ensures none_passes { OnOk result (NonePasses (scoped N.config N.rewrites N.scope) N.states) }
-        ensures fault { IfErr result (IsReportFault (scoped N.config N.rewrites N.scope) N.states) }
+        ensures scope { IsScopeOf self.now N.subject }
+        ensures report { IfOk result (IsReport N.subject) }
+        ensures none_passes { OnOk result (NonePasses N.subject N.states) }
+        ensures fault { IfErr result (IsReportFault N.subject N.states) }
     {
-        self.names.report(filed)
+        self.judge.report(filed)
     }
 }

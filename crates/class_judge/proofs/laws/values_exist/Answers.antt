@@ -1,5 +1,6 @@
-use Rattle.class_judge.proofs.ConfigTrees.{children_of, verdict_of, values}
+use Rattle.query_verdicts.specs.Carried.{whole_config}
+use Rattle.walk_laws.proofs.JoinedGround.{own_covers}
 use Rattle.class_judge.proofs.laws.values_exist.Goals as goal
 
 pub returns : goal.returns
-returns c = λ config rewrites states. (children_of config, verdict_of config rewrites states, values config rewrites states)
+returns c = λ config rewrites states. c.values_exist.ensures (whole_config config rewrites) (own_covers config) states

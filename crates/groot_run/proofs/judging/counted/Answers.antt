@@ -1,12 +1,14 @@
-use Rattle.net_model.specs.Reading.{ground_of}
-use Rattle.groot_run.specs.Outcome.{WithinStates}
-use Rattle.groot_run.proofs.ClassLists.{ends_past}
-use Rattle.groot_run.proofs.Endings.{without_rows}
+use Rattle.std.proofs.Common.{sym, subst, inl, inr}
+use Rattle.dns_data.specs.Name.{Labels}
+use Rattle.net_model.specs.Tree.{HasMoreThan, IsInPart}
+use Rattle.groot_run.proofs.ClassLists.{part_ends_past}
 use Rattle.groot_run.proofs.judging.counted.Goals as goal
 
 pub returns-in-Err : goal.returns-in-Err
 returns-in-Err g c =
-    let N = g.N.Naming in
+    let ground = g.N.Naming.subject.ground in
     let limit = c.args.limits.classes in
-    without_rows N.config limit (WithinStates N.config N.rewrites ⊥ c.in-Err.ending) c.in-Err.ending
-    (ends_past c.base_names.result.now (ground_of N.config) c.base_names.ensures limit c.in-Err.ending c.in-Err.ensures)
+    elim (part_ends_past c.base_names.result.now ground c.base_names.ensures _ limit c.in-Err.ending c.in-Err.ensures) [
+      | inl past ↦ inl (inl (subst (λ (above : Labels). HasMoreThan (IsInPart ground above) limit) (sym c.requires.whole) past.0, past.1))
+      | inr ran_out ↦ inr ran_out
+    ]

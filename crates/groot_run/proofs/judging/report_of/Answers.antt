@@ -1,6 +1,5 @@
-use Rattle.class_judge.proofs.ConfigTrees.{values}
-use Rattle.query_verdicts.specs.Queries.{most_states}
+use Rattle.class_judge.proofs.WholeConfigs.{is_covered}
 use Rattle.groot_run.proofs.judging.report_of.Goals as goal
 
-pub judged-requires-clause-values : goal.judged-requires-clause-values
-judged-requires-clause-values g c κs within = values c.args.config.now c.args.limits.rewrites most_states
+pub judged-requires-clause-covering : goal.judged-requires-clause-covering
+judged-requires-clause-covering g c κs within = is_covered c.args.config.now c.args.limits.rewrites

@@ -1,14 +1,17 @@
-use Rattle.class_judge.proofs.ConfigTrees.{apart, children_of, verdict_of}
+use Rattle.query_verdicts.proofs.TreeValues as trees
+use Rattle.query_verdicts.specs.Carried.{whole_config}
 use Rattle.query_verdicts.specs.Queries.{most_states}
+use Rattle.walk_laws.proofs.JoinedGround.{own_covers}
 use Rattle.groot_run.proofs.judging.report_of.Given as goal
 
 abbrev pub ghosts-judged : goal.ghosts-judged
 ghosts-judged g a =
+    let subject = whole_config a.config.now a.limits.rewrites in
+    let covers = own_covers a.config.now in
     record {
-      config = a.config.now;
-      rewrites = a.limits.rewrites;
+      subject = subject;
       states = most_states;
-      children_of = children_of a.config.now;
-      verdict_of = verdict_of a.config.now a.limits.rewrites most_states;
-      apart = apart a.config.now;
+      children_of = trees.names_below subject covers;
+      verdict_of = trees.verdict_of subject covers most_states;
+      values = trees.values subject covers most_states;
     }

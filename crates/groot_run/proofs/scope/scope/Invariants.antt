@@ -1,16 +1,17 @@
-use Rattle.job_scope.proofs.Scopes.{apart, children_of, verdict_of}
+use Rattle.job_scope.proofs.Scopes.{scope_covers}
+use Rattle.query_verdicts.proofs.TreeValues as trees
 use Rattle.query_verdicts.specs.Queries.{most_states}
-use Rattle.groot_run.specs.Outcome.{scope_rewrites}
+use Rattle.groot_run.specs.Outcome.{scope_of}
 use Rattle.groot_run.proofs.scope.scope.Given as goal
 
 abbrev pub ghosts-judged : goal.ghosts-judged
 ghosts-judged g a =
+    let subject = scope_of a.config.now a.scope.now in
+    let covers = scope_covers a.config.now a.scope.now in
     record {
-      config = a.config.now;
-      rewrites = scope_rewrites;
+      subject = subject;
       states = most_states;
-      scope = a.scope.now;
-      children_of = children_of a.config.now a.scope.now;
-      verdict_of = verdict_of a.config.now scope_rewrites most_states a.scope.now;
-      apart = apart a.config.now a.scope.now;
+      children_of = trees.names_below subject covers;
+      verdict_of = trees.verdict_of subject covers most_states;
+      values = trees.values subject covers most_states;
     }

@@ -1,23 +1,26 @@
 use Rattle.std.proofs.Common.{inl, inr}
-use Rattle.groot_run.specs.Outcome.{IsScoped}
-use Rattle.groot_run.proofs.JudgedScopes.{with_report, without_report}
+use Rattle.query_verdicts.specs.Passed.{IsRefusedFor, NonePasses}
+use Rattle.query_verdicts.specs.Queries.{most_states}
+use Rattle.groot_run.specs.Outcome.{HasMoreNamesAt, scope_names}
+use Rattle.groot_run.proofs.Budgets.{beyond, none_passes}
 use Rattle.groot_run.proofs.scope.told_by.Goals as goal
 
 pub shown-requires-clause-none_passes : goal.shown-requires-clause-none_passes
-shown-requires-clause-none_passes g c = c.in-Ok-report_of.ensures.1
+shown-requires-clause-none_passes g c = c.in-Ok-told.ensures.1
 
 pub shown-requires-clause-report : goal.shown-requires-clause-report
-shown-requires-clause-report g c = c.in-Ok-report_of.ensures.2
+shown-requires-clause-report g c = c.in-Ok-told.ensures.2
 
-pub returns-in-Ok-report_of : goal.returns-in-Ok-report_of
-returns-in-Ok-report_of g c =
-    let N = g.N.ScopeNaming in
-    with_report N.config N.scope _ c.in-Ok-report_of.report c.shown.result c.in-Ok-report_of.ensures c.shown.ensures
+pub returns-in-Ok-told : goal.returns-in-Ok-told
+returns-in-Ok-told g c =
+    let subject = g.N.Naming.subject in
+    none_passes scope_names (HasMoreNamesAt subject scope_names) (IsRefusedFor subject most_states) (NonePasses subject most_states) _ c.shown.result
+    c.in-Ok-told.ensures.0 c.in-Ok-told.ensures.1 c.shown.ensures
 
 pub returns-in-Ok : goal.returns-in-Ok
 returns-in-Ok g c =
-    let N = g.N.ScopeNaming in
-    without_report N.config N.scope (IsScoped N.config N.scope _ c.in-Err-report_of.ending) c.in-Err-report_of.ending c.in-Err-report_of.ensures
+    let subject = g.N.Naming.subject in
+    beyond scope_names (HasMoreNamesAt subject scope_names) (IsRefusedFor subject most_states) (NonePasses subject most_states) _ c.in-Err-told.ending c.in-Err-told.ensures
 
 pub returns : goal.returns
 returns g c =

@@ -1,4 +1,4 @@
-use Rattle.job_scope.proofs.ScopeLaw.{scope_law}
+use Rattle.job_scope.proofs.Scopes.{scope_law}
 use Rattle.job_scope.proofs.laws.scope_law.Goals as goal
 
 pub returns : goal.returns

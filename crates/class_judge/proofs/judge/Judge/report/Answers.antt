@@ -1,23 +1,18 @@
-use Rattle.std.proofs.lemmas.Result.{IfErr-weaker, on_ok_weaker}
-use Rattle.label_graph.proofs.BaseGround.{ground_closed}
-use Rattle.query_verdicts.specs.Carried.{whole_config}
+use Rattle.std.proofs.lemmas.Result.{IfErr-weaker}
 use Rattle.query_verdicts.specs.Passed.{IsReportFault}
+use Rattle.query_verdicts.proofs.CoveringGrounds.{is_closed}
 use Rattle.query_verdicts.proofs.FiledRows.{rows_of_whole}
-use Rattle.class_judge.specs.Refused.{IsRefusalOf}
-use Rattle.class_judge.proofs.ConfigTrees.{is_covered}
-use Rattle.class_judge.proofs.Refusals.{refused}
+use Rattle.class_judge.specs.Judge.{IsWholeRefusal}
+use Rattle.class_judge.proofs.WholeConfigs.{refused}
 use Rattle.class_judge.proofs.judge.Judge.report.Goals as goal
 
 pub report-requires-clause-rows : goal.report-requires-clause-rows
 report-requires-clause-rows g c =
     let N = g.N.Naming in
-    rows_of_whole (ground_closed N.config) (is_covered N.config N.rewrites).in_tree c.self.invariant c.args.filed c.requires.whole
+    let covering = c.self.invariant.covering in
+    rows_of_whole (is_closed N.subject.config N.subject.ground covering.covers) covering.in_tree N.values c.args.filed c.requires.whole
 
-pub returns-clause-none_passes : goal.returns-clause-none_passes
-returns-clause-none_passes g c = on_ok_weaker c.report.result (λ none. none.no_class) c.report.ensures.none_passes
-
-pub returns-clause-fault : goal.returns-clause-fault
-returns-clause-fault g c =
+pub returns-clause-whole_fault : goal.returns-clause-whole_fault
+returns-clause-whole_fault g c = λ whole.
     let N = g.N.Naming in
-    IfErr-weaker c.report.result (IsReportFault (whole_config N.config N.rewrites) N.states) (IsRefusalOf N.config N.rewrites N.states)
-    (refused N.config N.rewrites N.states) c.report.ensures.fault
+    IfErr-weaker c.report.result (IsReportFault N.subject N.states) (IsWholeRefusal N.subject N.states) (refused N.subject N.states whole) c.report.ensures.fault

@@ -1,22 +1,21 @@
-use Rattle.std.proofs.Common.{◌≡◌, []}
+use Rattle.std.proofs.Common.{◌≡◌}
 use Rattle.std.proofs.lemmas.Result.{IfOk-weaker}
 use Rattle.query_verdicts.proofs.JudgedItems.{children_picked, item_in_tree, verdict_picked}
 use Rattle.query_verdicts.proofs.OneVerdict.{one_verdict}
-use Rattle.class_judge.proofs.ConfigTrees.{is_covered}
 use Rattle.class_judge.proofs.judge.JudgeWork.judge.Goals as goal
 
 pub judge-requires : goal.judge-requires
 judge-requires g c =
     let N = g.N.Naming in
-    item_in_tree c.self.invariant c.args.item.now [] (is_covered N.config N.rewrites).in_tree c.requires
+    item_in_tree N.values c.args.item.now N.subject.below c.self.invariant.covering.in_tree c.requires
 
 pub returns-clause-verdict : goal.returns-clause-verdict
 returns-clause-verdict g c =
     let N = g.N.Naming in
     let item = c.args.item.now in
     IfOk-weaker c.judge.result _ (λ judged. judged.verdict ≡ N.verdict_of item)
-    (λ judged. verdict_picked c.self.invariant item (one_verdict N.config N.rewrites N.states)
-    (item_in_tree c.self.invariant item [] (is_covered N.config N.rewrites).in_tree c.requires) judged.verdict)
+    (λ judged. verdict_picked N.values item (one_verdict N.subject.config N.subject.rewrites N.states)
+    (item_in_tree N.values item N.subject.below c.self.invariant.covering.in_tree c.requires) judged.verdict)
     c.judge.ensures.verdict
 
 pub returns-clause-children : goal.returns-clause-children
@@ -24,4 +23,4 @@ returns-clause-children g c =
     let N = g.N.Naming in
     let item = c.args.item.now in
     IfOk-weaker c.judge.result _ (λ judged. judged.children ≡ N.children_of item)
-    (λ judged. children_picked c.self.invariant item judged.children) c.judge.ensures.children
+    (λ judged. children_picked N.values item judged.children) c.judge.ensures.children
