@@ -12,7 +12,7 @@ pub(crate) struct Left {
 
 impl Left {
     /// What may be read in all: 1,000,000 record entries, and 1,000 included files.
-    pub fn everything() -> Left
+    pub(crate) fn everything() -> Left
         ensures { result ≡ everything_left }
     {
         Left {
@@ -22,7 +22,7 @@ impl Left {
     }
 
     /// What a zone leaves with this many record entries and included files.
-    pub fn behind(self, seen: u32, included: u32) -> Left
+    pub(crate) fn behind(self, seen: u32, included: u32) -> Left
         ensures { result ≡ record { records = self.records - seen; includes = self.includes - included } }
     {
         Left {

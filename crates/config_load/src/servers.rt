@@ -37,7 +37,7 @@ impl Model for Servers {
 
 impl Servers {
     /// No server.
-    pub fn new(alloc: Global) -> Servers
+    pub(crate) fn new(alloc: Global) -> Servers
         ensures { result ≡ [] }
     {
         Servers {
@@ -48,14 +48,14 @@ impl Servers {
     }
 
     /// The servers, in order.
-    pub fn into_list(self) -> List<Server>
+    pub(crate) fn into_list(self) -> List<Server>
         ensures { result ≡ self }
     {
         List::from_vec(self.servers)
     }
 
     /// The servers with a zone more, which the row of this number gives to the server of this name.
-    pub fn with_zone(
+    pub(crate) fn with_zone(
         self,
         alloc: Global,
         row: u32,

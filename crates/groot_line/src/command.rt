@@ -56,7 +56,7 @@ impl Command {
     }
 
     /// The command with this word, if the program has it. The word is compared as written.
-    pub fn from_word(word: &[u8]) -> Option<Command>
+    pub(crate) fn from_word(word: &[u8]) -> Option<Command>
         ensures { result ≡ command_of word.now }
     {
         Command::ALL
@@ -66,7 +66,7 @@ impl Command {
     }
 
     /// Whether the command has the option.
-    pub fn has(&self, option: LineOption) -> bool
+    pub(crate) fn has(&self, option: LineOption) -> bool
         ensures { result ≡ has_option self.now option }
     {
         match (self, option) {

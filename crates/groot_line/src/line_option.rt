@@ -25,7 +25,7 @@ pub(crate) enum LineOption {
 
 impl LineOption {
     /// The option's name, which stands behind two dashes.
-    pub fn name<'a>(&self) -> &'a str
+    pub(crate) fn name<'a>(&self) -> &'a str
         ensures { result.now ≡ option_name self.now }
     {
         match self {
@@ -36,7 +36,7 @@ impl LineOption {
     }
 
     /// The most that the option's number may be.
-    pub fn most(&self) -> u32
+    pub(crate) fn most(&self) -> u32
         ensures { result ≡ most_of self.now }
     {
         match self {
@@ -47,7 +47,7 @@ impl LineOption {
     }
 
     /// The number where the words don't say it.
-    pub fn unsaid(&self) -> u32
+    pub(crate) fn unsaid(&self) -> u32
         ensures { result ≡ default_of self.now }
     {
         match self {

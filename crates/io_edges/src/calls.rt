@@ -15,14 +15,14 @@ pub(crate) struct Calls {
 
 impl Calls {
     /// No call so far.
-    pub fn new(fails: List<u32>) -> Calls
+    pub(crate) fn new(fails: List<u32>) -> Calls
         ensures { result ≡ record { fails = fails; made = 0 } }
     {
         Calls { fails, made: 0 }
     }
 
     /// Counts one call more, and answers whether its number is listed.
-    pub fn count(&mut self) -> bool
+    pub(crate) fn count(&mut self) -> bool
         ensures listed { result ≡ is_listed self.old.fails (risen self.old.made) }
         ensures counted { self.new ≡ record self.old { made = risen self.old.made } }
     {

@@ -40,7 +40,7 @@ impl NamedFiles {
     ghost use Rattle.io_edges.specs.NamedFiles.{stored};
 
     /// No file.
-    pub fn new(alloc: Global) -> NamedFiles
+    pub(crate) fn new(alloc: Global) -> NamedFiles
         ensures { result ≡ map.empty }
     {
         NamedFiles {
@@ -50,14 +50,14 @@ impl NamedFiles {
     }
 
     /// The file with this name, if there is one.
-    pub fn get(&self, name: &str) -> Option<&StoredFile>
+    pub(crate) fn get(&self, name: &str) -> Option<&StoredFile>
         ensures { option_map stored (option_copied result) ≡ map.get self.now name.now }
     {
         self.files.get(name)
     }
 
     /// Counts one failure more at the file with this name, and answers whether there is one.
-    pub fn count_failure(&mut self, name: &str) -> bool
+    pub(crate) fn count_failure(&mut self, name: &str) -> bool
         ensures held { result ≡ is_some (map.get self.old name.now) }
         ensures counted { self.new ≡ with_failure self.old name.now }
     {
@@ -72,7 +72,7 @@ impl NamedFiles {
 
     /// Puts a file under this name, in the place of the one that is there. After an error all
     /// files are as they were.
-    pub fn put(&mut self, name: &str, octets: &[u8], failures: u64) -> Result<(), NoMemory>
+    pub(crate) fn put(&mut self, name: &str, octets: &[u8], failures: u64) -> Result<(), NoMemory>
         ensures ok { OnOk result (self.new ≡ with_octets self.old name.now octets.now failures) }
         ensures err { OnErr result (self.new ≡ self.old) }
     {
@@ -82,7 +82,12 @@ impl NamedFiles {
 
     /// Puts a file of octets that it takes over under this name, in the place of the one that is there. After an error all
     /// files are as they were.
-    pub fn place(&mut self, name: &str, octets: Octets, failures: u64) -> Result<(), NoMemory>
+    pub(crate) fn place(
+        &mut self,
+        name: &str,
+        octets: Octets,
+        failures: u64,
+    ) -> Result<(), NoMemory>
         ensures ok { OnOk result (self.new ≡ with_octets self.old name.now octets failures) }
         ensures err { OnErr result (self.new ≡ self.old) }
     {

@@ -76,7 +76,7 @@ impl Scanner {
 
     /// Takes the entry that ends with the text, or says which fault the text ends in. After an error
     /// nothing has changed.
-    pub fn take_last(&mut self, alloc: Global) -> Result<Taken, TakeFault>
+    pub(crate) fn take_last(&mut self, alloc: Global) -> Result<Taken, TakeFault>
         requires { IsTidy (state_of self.old) }
         ensures answer { AnswersOr OutOfMemory result (left_answer true (last_entry (state_of self.old)) (last_fault self.old.position)) }
         ensures taken { IfOk result (LastTaken (state_of self.old) (state_of self.new)) }

@@ -21,7 +21,7 @@ pub enum OctetKind {
 /// What the octet means outside quotes and escapes.
 #[inline(always)]
 #[tactic(auto, unfolding(crate::specs::Octets::kind))]
-pub fn kind_of(octet: u8) -> OctetKind
+pub(crate) fn kind_of(octet: u8) -> OctetKind
     ensures { result ≡ kind octet }
 {
     match octet {
@@ -38,7 +38,7 @@ pub fn kind_of(octet: u8) -> OctetKind
 
 /// Whether the octet stands for itself in a token without quotes.
 #[tactic(auto, unfolding(crate::specs::Octets::kind))]
-pub fn is_plain_in_word(octet: u8) -> bool
+pub(crate) fn is_plain_in_word(octet: u8) -> bool
     ensures { result ≡ stands false (kind octet) }
 {
     // Nearly all octets of a text are at `*` or above, so that two more tests do for them.
@@ -51,7 +51,7 @@ pub fn is_plain_in_word(octet: u8) -> bool
 
 /// Whether the octet stands for itself in a token in quotes.
 #[tactic(auto, unfolding(crate::specs::Octets::kind))]
-pub fn is_plain_in_quotes(octet: u8) -> bool
+pub(crate) fn is_plain_in_quotes(octet: u8) -> bool
     ensures { result ≡ stands true (kind octet) }
 {
     !matches!(octet, b'"' | b'\n' | b'\\')
@@ -59,7 +59,7 @@ pub fn is_plain_in_quotes(octet: u8) -> bool
 
 /// Whether the octet is white space outside quotes and escapes.
 #[tactic(auto, unfolding(crate::specs::Octets::kind))]
-pub fn is_blank_octet(octet: u8) -> bool
+pub(crate) fn is_blank_octet(octet: u8) -> bool
     ensures { result ≡ is_blank (kind octet) }
 {
     matches!(octet, b' ' | b'\t' | b'\r')
@@ -67,21 +67,21 @@ pub fn is_blank_octet(octet: u8) -> bool
 
 /// Whether the octet is a line feed.
 #[tactic(auto, unfolding(crate::specs::Octets::kind))]
-pub fn is_feed_octet(octet: u8) -> bool
+pub(crate) fn is_feed_octet(octet: u8) -> bool
     ensures { result ≡ is_feed (kind octet) }
 {
     octet == b'\n'
 }
 
 /// Whether the octet is a space or a tab.
-pub fn is_space_octet(octet: u8) -> bool
+pub(crate) fn is_space_octet(octet: u8) -> bool
     ensures { result ≡ is_space octet }
 {
     octet == b' ' || octet == b'\t'
 }
 
 /// Whether the octets are three digits of a value up to 255.
-pub fn is_code(first: u8, second: u8, third: u8) -> bool
+pub(crate) fn is_code(first: u8, second: u8, third: u8) -> bool
     ensures { result ≡ is_code first second third }
 {
     if !(first.is_ascii_digit() && second.is_ascii_digit() && third.is_ascii_digit()) {

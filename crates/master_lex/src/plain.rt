@@ -140,7 +140,7 @@ impl Scanner {
     /// Passes over the octets in front that begin a token or only go on with what is under way, as
     /// far as the token has room for them, and says how many they are, which may be none. After an
     /// error nothing has changed.
-    pub fn pass_plain(&mut self, alloc: Global, octets: &[u8]) -> Result<usize, NoMemory>
+    pub(crate) fn pass_plain(&mut self, alloc: Global, octets: &[u8]) -> Result<usize, NoMemory>
         ensures ok { IfOk result (PassedFirst (state_of self.old) (state_of self.new) octets.now) }
         ensures err { OnErr result (state_of self.new ≡ state_of self.old) }
     {

@@ -7,7 +7,7 @@ use crate::fault::LexFault;
 
 /// How far an escape has come.
 #[derive(Clone, Copy, Debug, PartialEq, Eq)]
-pub enum Escape {
+pub(crate) enum Escape {
     /// No escape is under way.
     Outside,
     /// The `\` alone.
@@ -20,7 +20,7 @@ pub enum Escape {
 
 /// What is under way.
 #[derive(Clone, Copy, Debug, PartialEq, Eq)]
-pub enum Mode {
+pub(crate) enum Mode {
     /// Nothing of an entry yet.
     Start,
     /// White space and parentheses.
@@ -35,7 +35,7 @@ pub enum Mode {
 
 /// How far the entry under way has come.
 #[derive(Clone, Copy, Debug, PartialEq, Eq)]
-pub struct Position {
+pub(crate) struct Position {
     /// The line, counted from 1.
     pub line: u32,
     /// Whether the entry's first octet is a space or a tab.
@@ -52,7 +52,7 @@ pub struct Position {
 
 impl Position {
     /// The start of an entry in a line.
-    pub fn start(line: u32) -> Position
+    pub(crate) fn start(line: u32) -> Position
         ensures { result ≡ start_of line }
     {
         Position {

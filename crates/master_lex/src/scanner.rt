@@ -18,11 +18,11 @@ use std::collections::VecDeque;
 use std::mem;
 
 /// The most octets that a token has as written.
-pub const MOST: usize = 131_072;
+pub(crate) const MOST: usize = 131_072;
 
 /// The whole entries that weren't taken, and the entry under way.
 #[derive(Debug, Drop)]
-pub struct Scanner {
+pub(crate) struct Scanner {
     /// Whole entries.
     pub ready: VecDeque<Entry>,
     /// The whole tokens of the entry under way.
@@ -37,7 +37,7 @@ pub struct Scanner {
 
 impl Scanner {
     /// Nothing of a text. It takes no memory.
-    pub fn new(alloc: Global) -> Scanner
+    pub(crate) fn new(alloc: Global) -> Scanner
         ensures { state_of result ≡ empty }
     {
         Scanner {
@@ -113,7 +113,7 @@ impl Scanner {
     }
 
     /// Ends the token under way. After an error nothing has changed.
-    pub fn end_token(&mut self, quoted: bool) -> Result<(), NoMemory>
+    pub(crate) fn end_token(&mut self, quoted: bool) -> Result<(), NoMemory>
         ensures ok { OnOk result (state_of self.new ≡ token_ended (state_of self.old) quoted) }
         ensures err { OnErr result (state_of self.new ≡ state_of self.old) }
     {
@@ -339,7 +339,7 @@ impl Scanner {
 
     /// Passes over one octet. After an error it wasn't passed.
     #[tactic(auto, unfolding(crate::specs::States::passed))]
-    pub fn pass(&mut self, alloc: Global, octet: u8) -> Result<(), NoMemory>
+    pub(crate) fn pass(&mut self, alloc: Global, octet: u8) -> Result<(), NoMemory>
         requires line { self.old.position.line < 2 ^ 32 - 1 }
         requires depth { self.old.position.depth < 2 ^ 32 - 1 }
         ensures ok { OnOk result (state_of self.new ≡ passed (state_of self.old) octet) }
@@ -358,7 +358,7 @@ impl Scanner {
     }
 
     /// Passes over octets. After an error what was held before can be brought back.
-    pub fn pass_all(&mut self, alloc: Global, octets: &[u8]) -> Result<(), NoMemory>
+    pub(crate) fn pass_all(&mut self, alloc: Global, octets: &[u8]) -> Result<(), NoMemory>
         requires tidy { IsTidy (state_of self.old) }
         requires line { self.old.position.line + length octets.now < 2 ^ 32 }
         requires depth { self.old.position.depth + length octets.now < 2 ^ 32 }

@@ -13,20 +13,20 @@ const MOST_VECTORS: usize = 256;
 
 /// Vectors of tokens that aren't needed any more, whose room the entries to come take.
 #[derive(Debug, Drop)]
-pub struct Spares {
+pub(crate) struct Spares {
     vectors: Vec<Vec<Token>>,
 }
 
 impl Spares {
     /// No vectors. It takes no memory.
-    pub fn new(alloc: Global) -> Spares {
+    pub(crate) fn new(alloc: Global) -> Spares {
         Spares {
             vectors: Vec::new(alloc),
         }
     }
 
     /// A vector without a token, which has room where one is left. It takes no memory.
-    pub fn take(&mut self, alloc: Global) -> Vec<Token>
+    pub(crate) fn take(&mut self, alloc: Global) -> Vec<Token>
         ensures { result.items ≡ [] }
     {
         match self.vectors.pop() {
@@ -40,7 +40,7 @@ impl Spares {
 
     /// Takes the tokens off a vector and leaves its room to others, as far as there is memory for it. The room of more
     /// than 64 tokens, and of a vector behind 256 others, is given up.
-    pub fn leave(&mut self, mut tokens: Vec<Token>) {
+    pub(crate) fn leave(&mut self, mut tokens: Vec<Token>) {
         if tokens.len() > MOST_TOKENS || self.vectors.len() >= MOST_VECTORS {
             return;
         }

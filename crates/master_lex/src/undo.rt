@@ -14,7 +14,7 @@ use std::collections::VecDeque;
 
 /// How much was held before a piece.
 #[derive(Clone, Copy, Debug)]
-pub struct Mark {
+pub(crate) struct Mark {
     /// How many whole entries.
     pub ready: usize,
     /// How many whole tokens of the entry under way.
@@ -61,7 +61,7 @@ fn undo_entries(ready: &mut VecDeque<Entry>, tokens: &mut Vec<Token>, raw: &mut 
 
 impl Scanner {
     /// How much is held.
-    pub fn mark(&self) -> Mark
+    pub(crate) fn mark(&self) -> Mark
         ensures { result ≡ mark_of (state_of self.now) }
     {
         Mark {
@@ -73,7 +73,7 @@ impl Scanner {
     }
 
     /// Brings back what was held at the mark.
-    pub fn undo(&mut self, mark: Mark)
+    pub(crate) fn undo(&mut self, mark: Mark)
         ensures { (before : LexState) → mark ≡ mark_of before → Grew before (state_of self.old) → state_of self.new ≡ before }
     {
         undo_entries(&mut self.ready, &mut self.tokens, &mut self.raw, mark.ready);

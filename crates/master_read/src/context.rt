@@ -8,7 +8,7 @@ use std::alloc::Global;
 
 /// The context in which an entry is read (RFC 1035 section 5.1, RFC 2308 section 4).
 #[derive(Debug, Drop)]
-pub struct Context {
+pub(crate) struct Context {
     /// Where names without a final dot stand below.
     pub origin: Name,
     /// The TTL of the last `$TTL`, in seconds.
@@ -21,7 +21,7 @@ pub struct Context {
 
 impl Context {
     /// The context before everything, under an origin: nothing is stated.
-    pub fn new(origin: Name) -> Context
+    pub(crate) fn new(origin: Name) -> Context
         ensures { result ≡ under origin no_context }
     {
         Context {
@@ -33,7 +33,7 @@ impl Context {
     }
 
     /// A copy of the context under another origin.
-    pub fn under(&self, alloc: Global, origin: Name) -> Result<Context, NoMemory>
+    pub(crate) fn under(&self, alloc: Global, origin: Name) -> Result<Context, NoMemory>
         ensures { IfOk result (λ inner. inner ≡ under origin self.now) }
     {
         let owner = match &self.owner {

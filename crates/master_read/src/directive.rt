@@ -14,7 +14,7 @@ use std::alloc::Global;
 
 /// A file that is included.
 #[derive(Debug, Drop)]
-pub struct Include {
+pub(crate) struct Include {
     /// The file's name.
     pub file: Text,
     /// Where its names without a final dot stand below.
@@ -22,7 +22,7 @@ pub struct Include {
 }
 
 /// Whether the entry is a directive.
-pub fn is_directive(entry: &Entry) -> bool
+pub(crate) fn is_directive(entry: &Entry) -> bool
     ensures { result ≡ is_directive entry.now }
 {
     !entry.blank_start && begins_with_dollar(entry.tokens.items())
@@ -39,7 +39,7 @@ fn begins_with_dollar(tokens: &[Token]) -> bool
 }
 
 /// Whether the entry is an `$INCLUDE`.
-pub fn is_include(entry: &Entry) -> bool
+pub(crate) fn is_include(entry: &Entry) -> bool
     ensures { result ≡ is_include entry.now }
 {
     is_directive(entry) && includes(entry.tokens.items())
@@ -57,7 +57,7 @@ fn includes(tokens: &[Token]) -> bool
 
 /// Puts what a directive says into the context, which is no `$INCLUDE`.
 #[tactic(auto, unfolding(crate::specs::Directives::directive_of))]
-pub fn read_directive(
+pub(crate) fn read_directive(
     alloc: Global,
     context: &mut Context,
     tokens: &[Token],
@@ -125,7 +125,7 @@ fn read_default_ttl(context: &mut Context, arguments: &[Token]) -> Result<(), En
 
 /// The file that an `$INCLUDE` names, and the origin of its entries (RFC 1035 section 5.1).
 #[tactic(auto, unfolding(crate::specs::Directives::directive_of))]
-pub fn read_include(
+pub(crate) fn read_include(
     alloc: Global,
     context: &Context,
     tokens: &[Token],

@@ -79,7 +79,7 @@ pub enum TextFault {
 
 /// Why an entry wasn't read.
 #[derive(Clone, Copy, Debug, PartialEq, Eq)]
-pub enum EntryFault {
+pub(crate) enum EntryFault {
     /// This is wrong in it.
     Cause(TextCause),
     /// Memory ran out.
@@ -112,7 +112,7 @@ impl TextCause {
 
 impl EntryFault {
     /// The fault, in the file of this number and this line.
-    pub fn at(self, file: u32, line: u32) -> TextFault
+    pub(crate) fn at(self, file: u32, line: u32) -> TextFault
         ensures { result ≡ fault_at file line self }
     {
         match self {

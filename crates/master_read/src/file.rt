@@ -20,7 +20,7 @@ use std::collections::VecDeque;
 
 /// A file that is being read.
 #[derive(Debug, Drop)]
-pub struct File {
+pub(crate) struct File {
     /// How many files were opened before it.
     pub number: u32,
     /// How many levels of included files may lie below it.
@@ -35,7 +35,7 @@ pub struct File {
 
 /// Takes the entries that the lexer has to give, and answers the fault in the spelling of the next one, if the lexer
 /// knows it.
-pub fn take_all(
+pub(crate) fn take_all(
     alloc: Global,
     lexer: &mut Lexer,
     entries: &mut VecDeque<Entry>,
@@ -60,7 +60,7 @@ pub fn take_all(
 }
 
 /// Reads the entries in front, up to an `$INCLUDE`, of the file of this number, and hands them back to the lexer.
-pub fn read_ready(
+pub(crate) fn read_ready(
     alloc: Global,
     lexer: &mut Lexer,
     records: &mut Records,

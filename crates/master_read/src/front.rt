@@ -10,7 +10,7 @@ use rdata_forms::read_ttl;
 
 /// What stood in front of a record's type so far, behind the owner.
 #[derive(Clone, Copy, Debug)]
-pub struct Front<'a> {
+pub(crate) struct Front<'a> {
     /// The TTL, in seconds.
     pub ttl: Option<u32>,
     /// Whether the class stood there.
@@ -21,7 +21,7 @@ pub struct Front<'a> {
 
 /// What stands in front of the type: a TTL and a class, in either order, each at most once.
 #[tactic(auto, unfolding(crate::specs::Entries::front_in))]
-pub fn read_front(tokens: &[Token]) -> Result<Front<'_>, TextCause>
+pub(crate) fn read_front(tokens: &[Token]) -> Result<Front<'_>, TextCause>
     ensures { MatchResult result
         (λ front. front_in tokens.now ≡ Ok (record { ttl = front.ttl; class = front.has_class; tokens = front.tokens.now }))
         (λ cause. front_in tokens.now ≡ Err cause) }

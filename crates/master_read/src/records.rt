@@ -18,7 +18,7 @@ use std::mem;
 
 /// How much may be read.
 #[derive(Clone, Copy, Debug)]
-pub struct ReadLimits {
+pub(crate) struct ReadLimits {
     /// How many record entries.
     pub room: u32,
     /// How many files may be included.
@@ -27,7 +27,7 @@ pub struct ReadLimits {
 
 /// The records of the entries so far, and the context behind them.
 #[derive(Debug, Drop)]
-pub struct Records {
+pub(crate) struct Records {
     /// What the entries leave for the next one.
     pub context: Context,
     /// The records in order.
@@ -40,7 +40,7 @@ pub struct Records {
 
 impl Records {
     /// Nothing was read, and names stand below an origin.
-    pub fn new(alloc: Global, origin: Name) -> Records
+    pub(crate) fn new(alloc: Global, origin: Name) -> Records
         ensures { result ≡ record no_records { context = under origin no_context } }
     {
         Records {
@@ -53,7 +53,7 @@ impl Records {
 
     /// Reads one entry more of the file of this number, which is no `$INCLUDE`.
     #[tactic(auto, unfolding(crate::specs::ZoneText::effect_of))]
-    pub fn read(
+    pub(crate) fn read(
         &mut self,
         alloc: Global,
         room: u32,
@@ -87,7 +87,7 @@ impl Records {
     }
 
     /// Begins a file more, which is included, under this origin, and gives the context before it.
-    pub fn enter(&mut self, alloc: Global, origin: Name) -> Result<Context, NoMemory>
+    pub(crate) fn enter(&mut self, alloc: Global, origin: Name) -> Result<Context, NoMemory>
         requires { self.old.included + 1 < 2 ^ 32 }
         ensures before { IfOk result (λ before. before ≡ self.old.context) }
         ensures ok { OnOk result (self.new ≡ record self.old { context = under origin self.old.context; included = self.old.included + 1 }) }
@@ -98,7 +98,7 @@ impl Records {
     }
 
     /// Ends a file that had this context before it: the origin and the last owner are again those before it.
-    pub fn leave(&mut self, before: Context)
+    pub(crate) fn leave(&mut self, before: Context)
         ensures { self.new ≡ record self.old { context = back_at before self.old.context } }
     {
         self.context.origin = before.origin;
@@ -106,7 +106,7 @@ impl Records {
     }
 
     /// The records, and how many entries and files there were.
-    pub fn into_text(self) -> ZoneText
+    pub(crate) fn into_text(self) -> ZoneText
         ensures { result ≡ zone_text_of self }
     {
         let Records {

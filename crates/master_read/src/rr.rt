@@ -18,7 +18,7 @@ use std::alloc::Global;
 /// The record of a record entry of the file of this number, or `None` where its type is dropped. What it leaves for
 /// the next entry goes into the context.
 #[tactic(auto, unfolding(crate::specs::Entries::record_of))]
-pub fn read_record(
+pub(crate) fn read_record(
     alloc: Global,
     context: &mut Context,
     file: u32,

@@ -72,7 +72,7 @@ fn is_some_word(words: &[&str], octets: &[u8]) -> bool
 
 /// What the word of a type says, or `None` where the octets are none.
 #[tactic(auto, unfolding(crate::specs::Words::type_word))]
-pub fn type_word(octets: &[u8]) -> Option<TypeWord>
+pub(crate) fn type_word(octets: &[u8]) -> Option<TypeWord>
     ensures { result ≡ type_word octets.now }
 {
     match RrType::from_word(octets) {
@@ -117,7 +117,7 @@ fn type_numbered(number: u16) -> Option<RrType>
 
 /// What the word of a class says, or `None` where the octets are none.
 #[tactic(auto, unfolding(crate::specs::Words::class_word))]
-pub fn class_word(octets: &[u8]) -> Option<ClassWord>
+pub(crate) fn class_word(octets: &[u8]) -> Option<ClassWord>
     ensures { result ≡ class_word octets.now }
 {
     if is_some_word(&["IN", "CLASS1"], octets) {

@@ -9,7 +9,7 @@ use std::marker::Model;
 
 /// Tickets in the order in which they are taken.
 #[derive(Debug, Drop)]
-pub struct Queue {
+pub(crate) struct Queue {
     tickets: VecDeque<u32>,
 }
 
@@ -23,7 +23,7 @@ impl Model for Queue {
 
 impl Queue {
     /// The queue without a ticket.
-    pub fn new(alloc: Global) -> Queue
+    pub(crate) fn new(alloc: Global) -> Queue
         ensures { result ≡ [] }
     {
         Queue {
@@ -32,14 +32,14 @@ impl Queue {
     }
 
     /// Whether it holds no ticket.
-    pub fn is_empty(&self) -> bool
+    pub(crate) fn is_empty(&self) -> bool
         ensures { result ≡ (length self.now == 0) }
     {
         self.tickets.is_empty()
     }
 
     /// Puts a ticket at the back. After an error the queue is as it was.
-    pub fn push_back(&mut self, ticket: u32) -> Result<(), NoMemory>
+    pub(crate) fn push_back(&mut self, ticket: u32) -> Result<(), NoMemory>
         ensures ok { OnOk result (self.new ≡ self.old ++ ticket ∷ []) }
         ensures err { OnErr result (self.new ≡ self.old) }
     {
@@ -48,7 +48,7 @@ impl Queue {
     }
 
     /// Takes the first ticket.
-    pub fn pop_front(&mut self) -> Option<u32>
+    pub(crate) fn pop_front(&mut self) -> Option<u32>
         ensures first { IfSome result (λ ticket. self.old ≡ ticket ∷ self.new) }
         ensures none { IfNone result (self.old ≡ []) }
         ensures stays { IfNone result (self.new ≡ self.old) }

@@ -15,7 +15,7 @@ use master_lex::Token;
 use std::alloc::Global;
 
 /// A number of one to ten digits, or `BadNumber` where the token is none or the number is above `most`.
-pub fn number_field(token: &Token, most: u32) -> Result<u32, RdataFault>
+pub(crate) fn number_field(token: &Token, most: u32) -> Result<u32, RdataFault>
     ensures number { result ≡ number_in most token.now.raw }
     ensures within { IfOk result (λ number. number ≤ most) }
 {
@@ -23,14 +23,14 @@ pub fn number_field(token: &Token, most: u32) -> Result<u32, RdataFault>
 }
 
 /// A time in seconds, or `BadNumber` where the token is none.
-pub fn time_field(token: &Token) -> Result<u32, RdataFault>
+pub(crate) fn time_field(token: &Token) -> Result<u32, RdataFault>
     ensures { result ≡ time_in token.now.raw }
 {
     read_ttl(token.raw.items()).ok_or(RdataFault::BadNumber)
 }
 
 /// A name under an origin, or why the token is none.
-pub fn name_field(alloc: Global, token: &Token, origin: &Name) -> Result<Name, RdataFault>
+pub(crate) fn name_field(alloc: Global, token: &Token, origin: &Name) -> Result<Name, RdataFault>
     ensures { AnswersOr RdataFault.NoMemory result (name_in origin.now token.now.raw) }
 {
     match Name::from_text(alloc, token.raw.items(), origin) {
@@ -41,7 +41,11 @@ pub fn name_field(alloc: Global, token: &Token, origin: &Name) -> Result<Name, R
 }
 
 /// A name under an origin in memory of its own, or why the token is none.
-pub fn boxed_name(alloc: Global, token: &Token, origin: &Name) -> Result<Boxed<Name>, RdataFault>
+pub(crate) fn boxed_name(
+    alloc: Global,
+    token: &Token,
+    origin: &Name,
+) -> Result<Boxed<Name>, RdataFault>
     ensures { AnswersOr RdataFault.NoMemory result (name_in origin.now token.now.raw) }
 {
     let name = name_field(alloc, token, origin)?;
@@ -49,14 +53,18 @@ pub fn boxed_name(alloc: Global, token: &Token, origin: &Name) -> Result<Boxed<N
 }
 
 /// A string of at most this many octets, or `TextTooLong`.
-pub fn string_field(alloc: Global, token: &Token, most: usize) -> Result<Octets, RdataFault>
+pub(crate) fn string_field(alloc: Global, token: &Token, most: usize) -> Result<Octets, RdataFault>
     ensures { AnswersOr RdataFault.NoMemory result (string_of most token.now.raw) }
 {
     read_string(alloc, token.raw.items(), most)
 }
 
 /// A string of at most this many octets in memory of its own, or `TextTooLong`.
-pub fn boxed_string(alloc: Global, token: &Token, most: usize) -> Result<Boxed<Octets>, RdataFault>
+pub(crate) fn boxed_string(
+    alloc: Global,
+    token: &Token,
+    most: usize,
+) -> Result<Boxed<Octets>, RdataFault>
     ensures { AnswersOr RdataFault.NoMemory result (string_of most token.now.raw) }
 {
     let string = string_field(alloc, token, most)?;
@@ -64,7 +72,7 @@ pub fn boxed_string(alloc: Global, token: &Token, most: usize) -> Result<Boxed<O
 }
 
 /// A tag, folded, in memory of its own, or why the token is none.
-pub fn boxed_tag(alloc: Global, token: &Token) -> Result<Boxed<Octets>, RdataFault>
+pub(crate) fn boxed_tag(alloc: Global, token: &Token) -> Result<Boxed<Octets>, RdataFault>
     ensures { AnswersOr RdataFault.NoMemory result (tag_of token.now.raw) }
 {
     let tag = read_tag(alloc, token.raw.items())?;

@@ -15,7 +15,7 @@ use master_lex::Token;
 use std::alloc::Global;
 
 /// An IPv4 address (RFC 1035 section 3.4.1).
-pub fn read_a(tokens: &[Token]) -> Result<Rdata, RdataFault>
+pub(crate) fn read_a(tokens: &[Token]) -> Result<Rdata, RdataFault>
     ensures { result ≡ a_of (written tokens.now) }
 {
     let [address] = tokens else {
@@ -28,7 +28,7 @@ pub fn read_a(tokens: &[Token]) -> Result<Rdata, RdataFault>
 }
 
 /// An IPv6 address (RFC 3596 section 2.4).
-pub fn read_aaaa(tokens: &[Token]) -> Result<Rdata, RdataFault>
+pub(crate) fn read_aaaa(tokens: &[Token]) -> Result<Rdata, RdataFault>
     ensures { result ≡ aaaa_of (written tokens.now) }
 {
     let [address] = tokens else {
@@ -51,35 +51,43 @@ fn read_one_name(alloc: Global, tokens: &[Token], origin: &Name) -> Result<Name,
 }
 
 /// A name server (RFC 1035 section 3.3.11).
-pub fn read_ns(alloc: Global, tokens: &[Token], origin: &Name) -> Result<Rdata, RdataFault>
+pub(crate) fn read_ns(alloc: Global, tokens: &[Token], origin: &Name) -> Result<Rdata, RdataFault>
     ensures { AnswersOr RdataFault.NoMemory result (ns_of origin.now (written tokens.now)) }
 {
     Ok(Rdata::Ns(read_one_name(alloc, tokens, origin)?))
 }
 
 /// A canonical name (RFC 1035 section 3.3.1).
-pub fn read_cname(alloc: Global, tokens: &[Token], origin: &Name) -> Result<Rdata, RdataFault>
+pub(crate) fn read_cname(
+    alloc: Global,
+    tokens: &[Token],
+    origin: &Name,
+) -> Result<Rdata, RdataFault>
     ensures { AnswersOr RdataFault.NoMemory result (cname_of origin.now (written tokens.now)) }
 {
     Ok(Rdata::Cname(read_one_name(alloc, tokens, origin)?))
 }
 
 /// A pointer (RFC 1035 section 3.3.12).
-pub fn read_ptr(alloc: Global, tokens: &[Token], origin: &Name) -> Result<Rdata, RdataFault>
+pub(crate) fn read_ptr(alloc: Global, tokens: &[Token], origin: &Name) -> Result<Rdata, RdataFault>
     ensures { AnswersOr RdataFault.NoMemory result (ptr_of origin.now (written tokens.now)) }
 {
     Ok(Rdata::Ptr(read_one_name(alloc, tokens, origin)?))
 }
 
 /// A redirection of a subtree (RFC 6672 section 2.1).
-pub fn read_dname(alloc: Global, tokens: &[Token], origin: &Name) -> Result<Rdata, RdataFault>
+pub(crate) fn read_dname(
+    alloc: Global,
+    tokens: &[Token],
+    origin: &Name,
+) -> Result<Rdata, RdataFault>
     ensures { AnswersOr RdataFault.NoMemory result (dname_of origin.now (written tokens.now)) }
 {
     Ok(Rdata::Dname(read_one_name(alloc, tokens, origin)?))
 }
 
 /// A start of authority: two names, a number and four times (RFC 1035 section 3.3.13).
-pub fn read_soa(alloc: Global, tokens: &[Token], origin: &Name) -> Result<Rdata, RdataFault>
+pub(crate) fn read_soa(alloc: Global, tokens: &[Token], origin: &Name) -> Result<Rdata, RdataFault>
     ensures { AnswersOr RdataFault.NoMemory result (soa_of origin.now (written tokens.now)) }
 {
     let [mname, rname, serial, refresh, retry, expire, minimum] = tokens else {
@@ -97,7 +105,7 @@ pub fn read_soa(alloc: Global, tokens: &[Token], origin: &Name) -> Result<Rdata,
 }
 
 /// A processor and an operating system (RFC 1035 section 3.3.2).
-pub fn read_hinfo(alloc: Global, tokens: &[Token]) -> Result<Rdata, RdataFault>
+pub(crate) fn read_hinfo(alloc: Global, tokens: &[Token]) -> Result<Rdata, RdataFault>
     ensures { AnswersOr RdataFault.NoMemory result (hinfo_of (written tokens.now)) }
 {
     let [cpu, os] = tokens else {
@@ -110,7 +118,7 @@ pub fn read_hinfo(alloc: Global, tokens: &[Token]) -> Result<Rdata, RdataFault>
 }
 
 /// A mail exchange: a number and a name (RFC 1035 section 3.3.9).
-pub fn read_mx(alloc: Global, tokens: &[Token], origin: &Name) -> Result<Rdata, RdataFault>
+pub(crate) fn read_mx(alloc: Global, tokens: &[Token], origin: &Name) -> Result<Rdata, RdataFault>
     ensures { AnswersOr RdataFault.NoMemory result (mx_of origin.now (written tokens.now)) }
 {
     let [preference, exchange] = tokens else {
@@ -123,7 +131,7 @@ pub fn read_mx(alloc: Global, tokens: &[Token], origin: &Name) -> Result<Rdata, 
 }
 
 /// One or more texts (RFC 1035 section 3.3.14).
-pub fn read_txt(alloc: Global, tokens: &[Token]) -> Result<Rdata, RdataFault>
+pub(crate) fn read_txt(alloc: Global, tokens: &[Token]) -> Result<Rdata, RdataFault>
     ensures { AnswersOr RdataFault.NoMemory result (txt_of (written tokens.now)) }
 {
     if tokens.is_empty() {
@@ -144,7 +152,7 @@ fn read_strings(alloc: Global, tokens: &[Token]) -> Result<List<Octets>, RdataFa
 }
 
 /// The place of a service: three numbers and a name (RFC 2782).
-pub fn read_srv(alloc: Global, tokens: &[Token], origin: &Name) -> Result<Rdata, RdataFault>
+pub(crate) fn read_srv(alloc: Global, tokens: &[Token], origin: &Name) -> Result<Rdata, RdataFault>
     ensures { AnswersOr RdataFault.NoMemory result (srv_of origin.now (written tokens.now)) }
 {
     let [priority, weight, port, target] = tokens else {
@@ -159,7 +167,7 @@ pub fn read_srv(alloc: Global, tokens: &[Token], origin: &Name) -> Result<Rdata,
 }
 
 /// Which authorities may issue certificates: a number, a tag and a string (RFC 8659 section 4.1).
-pub fn read_caa(alloc: Global, tokens: &[Token]) -> Result<Rdata, RdataFault>
+pub(crate) fn read_caa(alloc: Global, tokens: &[Token]) -> Result<Rdata, RdataFault>
     ensures { AnswersOr RdataFault.NoMemory result (caa_of (written tokens.now)) }
 {
     let [flags, tag, value] = tokens else {

@@ -10,7 +10,7 @@ use dns_data::read_number;
 use master_lex::Token;
 
 /// Whether the first token isn't quoted and reads `\#`.
-pub fn is_generic(tokens: &[Token]) -> bool
+pub(crate) fn is_generic(tokens: &[Token]) -> bool
     ensures { result ≡ begins_generic tokens.now }
 {
     match tokens {
@@ -21,7 +21,7 @@ pub fn is_generic(tokens: &[Token]) -> bool
 
 /// Whether behind the first token a length of up to 65,535 and exactly this many octets in hexadecimal stand, however
 /// the digits are cut into tokens.
-pub fn is_generic_form(tokens: &[Token]) -> bool
+pub(crate) fn is_generic_form(tokens: &[Token]) -> bool
     ensures { result ≡ has_generic_form (written tokens.now) }
 {
     let [_, octets, digits @ ..] = tokens else {

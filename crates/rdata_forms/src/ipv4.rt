@@ -8,7 +8,7 @@ use dns_data::read_number;
 
 /// The IPv4 address that the text stands for, or `None` where it stands for none: four numbers up to 255 without
 /// leading zeros, with dots between (RFC 1035 section 3.4.1).
-pub fn read_ipv4(text: &[u8]) -> Option<[u8; 4]>
+pub(crate) fn read_ipv4(text: &[u8]) -> Option<[u8; 4]>
     ensures { result ≡ ipv4_of text.now }
 {
     let (a, rest) = first_piece(text, b'.');

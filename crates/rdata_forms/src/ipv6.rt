@@ -16,7 +16,7 @@ const ZEROS: [u8; 16] = [0; 16];
 /// The IPv6 address that the text stands for, or `None` where it stands for none: eight groups of one to four
 /// hexadecimal digits with colons between. One `::` stands for one or more groups of zero, and an IPv4 address may
 /// stand for the last two groups (RFC 4291 section 2.2).
-pub fn read_ipv6(text: &[u8]) -> Option<[u8; 16]>
+pub(crate) fn read_ipv6(text: &[u8]) -> Option<[u8; 16]>
     ensures { result ≡ ipv6_of text.now }
 {
     match sides(text) {
@@ -136,7 +136,7 @@ fn read_group(text: &[u8]) -> Option<u16>
 }
 
 /// The value of a hexadecimal digit in either case, or `None` where the octet is none.
-pub fn hex_value(octet: u8) -> Option<u8>
+pub(crate) fn hex_value(octet: u8) -> Option<u8>
     ensures { SomeIff result (IsTrue (is_hex octet)) (hex_digit octet) }
 {
     match octet {

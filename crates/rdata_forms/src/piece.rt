@@ -6,7 +6,7 @@ ghost use Rattle.std.specs.Option.{option_map_or};
 ghost use Rattle.rdata_forms.specs.Addresses.{split_on};
 
 /// The text before the first separator, and what stands behind it, or `None` where there is no separator.
-pub fn first_piece(text: &[u8], separator: u8) -> (&[u8], Option<&[u8]>)
+pub(crate) fn first_piece(text: &[u8], separator: u8) -> (&[u8], Option<&[u8]>)
     ensures pieces { split_on separator text.now ≡ result.0.now ∷ option_map_or (λ rest. split_on separator rest.now) result.1 [] }
     ensures shorter { IfSome result.1 (λ rest. length rest.now < length text.now) }
 {

@@ -12,7 +12,7 @@ use std::alloc::Global;
 /// The string that the text of a token stands for, in one buffer, or `TextTooLong` where it has more than `most`
 /// octets. Escapes are resolved and nothing is folded (RFC 1035 section 5.1).
 #[tactic(auto, using(crate::proofs::PlainTexts::plain_resolved))]
-pub fn read_string(alloc: Global, text: &[u8], most: usize) -> Result<Octets, RdataFault>
+pub(crate) fn read_string(alloc: Global, text: &[u8], most: usize) -> Result<Octets, RdataFault>
     ensures { AnswersOr RdataFault.NoMemory result (string_of most text.now) }
 {
     if !has_no_backslash(text) {
@@ -75,7 +75,7 @@ fn first_octet(text: &[u8]) -> Option<(u8, &[u8])>
 
 /// The property tag that the text writes, folded: `TextTooLong` where it has more than 255 octets, else `BadNumber`
 /// where there is none or one is no letter and no digit (RFC 8659 section 4.1).
-pub fn read_tag(alloc: Global, text: &[u8]) -> Result<Octets, RdataFault>
+pub(crate) fn read_tag(alloc: Global, text: &[u8]) -> Result<Octets, RdataFault>
     ensures { AnswersOr RdataFault.NoMemory result (tag_of text.now) }
 {
     if text.len() > 255 {

@@ -37,7 +37,7 @@ impl Model for EndSet {
 
 impl EndSet {
     /// No end.
-    pub fn new(alloc: Global) -> EndSet
+    pub(crate) fn new(alloc: Global) -> EndSet
         ensures { result ≡ [] }
     {
         EndSet {
@@ -47,14 +47,14 @@ impl EndSet {
     }
 
     /// The ends, in order.
-    pub fn into_list(self) -> List<TypedEnd>
+    pub(crate) fn into_list(self) -> List<TypedEnd>
         ensures { result ≡ self }
     {
         self.ends
     }
 
     /// Puts an end behind the others, unless it is there. It is compared with those at its server.
-    pub fn put(
+    pub(crate) fn put(
         &mut self,
         alloc: Global,
         rtype: RrType,

@@ -34,7 +34,7 @@ impl PoolCount {
 }
 
 /// The fault of a run under this limit that was stopped for the cause.
-pub fn fault_of(cause: StopCause, limit: u32) -> PoolFault
+pub(crate) fn fault_of(cause: StopCause, limit: u32) -> PoolFault
     ensures { result ≡ fault_of cause limit }
 {
     match cause {

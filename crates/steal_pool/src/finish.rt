@@ -13,7 +13,7 @@ use verdict_book::{Book, Claim, ClaimFault, FileFault, JudgeShare, Judged, Work}
 
 /// Claims the tickets from 0 upwards, and judges and files each claim that is given, until no ticket is
 /// left. It asks no gate.
-pub fn finish<W: Work>(
+pub(crate) fn finish<W: Work>(
     book: &mut Book<W>,
     work: &W,
     share: &mut JudgeShare,

@@ -15,7 +15,7 @@ use verdict_book::{Book, Work};
 
 /// The counts of some slots together, and the cause of their stops. Want of room goes first.
 #[derive(Clone, Copy, Debug, PartialEq, Eq)]
-pub struct Tally {
+pub(crate) struct Tally {
     pub judged: u64,
     pub foreign: u64,
     pub stop: Option<StopCause>,
@@ -23,13 +23,13 @@ pub struct Tally {
 
 /// The book that the workers left, with their counts and the cause for which they stopped.
 #[derive(Drop)]
-pub struct Gathered<W: Work> {
+pub(crate) struct Gathered<W: Work> {
     pub book: Book<W>,
     pub tally: Tally,
 }
 
 /// Gathers the shares and counts of all slots.
-pub fn gather<W: Work, A: Capped, B: Ledger, C: Ledger>(
+pub(crate) fn gather<W: Work, A: Capped, B: Ledger, C: Ledger>(
     mut slots: Vec<Slot<A, B, C>>,
     mut locked: LockedBook<W, A, B, C>,
     mut given: Share<B>,

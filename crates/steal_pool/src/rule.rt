@@ -11,7 +11,7 @@ pub struct SeatView {
 }
 
 /// What was pushed is balanced by what is held and what was taken.
-pub struct Balance;
+pub(crate) struct Balance;
 
 impl Protocol<u32, SeatView> for Balance {
     ghost use Rattle.steal_pool.specs.Rule.{KeepsBalance, new_seat};
@@ -24,7 +24,7 @@ impl Protocol<u32, SeatView> for Balance {
 }
 
 /// A push at the back.
-pub struct Pushes;
+pub(crate) struct Pushes;
 
 impl Outcome<u32, SeatView> for Pushes {
     ghost use Rattle.std.specs.Prelude.{◌≡◌, ◌++◌};
@@ -34,7 +34,7 @@ impl Outcome<u32, SeatView> for Pushes {
 }
 
 /// A pop of the first ticket, or a steal of it.
-pub struct Takes;
+pub(crate) struct Takes;
 
 impl Outcome<u32, SeatView> for Takes {
     ghost use Rattle.std.specs.Prelude.{◌≡◌, ◌++◌};
@@ -46,7 +46,7 @@ impl Outcome<u32, SeatView> for Takes {
 }
 
 /// Splitting a seat, and joining one.
-pub struct Seats;
+pub(crate) struct Seats;
 
 impl Split<SeatView> for Seats {
     ghost use Rattle.steal_pool.specs.Rule.{new_seat};
@@ -66,7 +66,7 @@ impl Join<SeatView> for Seats {
 }
 
 /// What is held at one moment.
-pub struct Holds;
+pub(crate) struct Holds;
 
 impl Lesson<u32, SeatView> for Holds {
     ghost use Rattle.steal_pool.specs.Rule.{IsHeldBeside};

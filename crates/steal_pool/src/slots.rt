@@ -20,7 +20,7 @@ use verdict_book::{JudgeShare, Work};
 const PLACES: usize = 64;
 
 /// A slot for each worker, with a seat at the deque of each other one.
-pub fn make_slots<A: Capped, B: Ledger, C: Ledger>(
+pub(crate) fn make_slots<A: Capped, B: Ledger, C: Ledger>(
     alloc: Global,
     workers: usize,
     asked: &mut Share<A>,
@@ -106,7 +106,7 @@ fn other_seats(alloc: Global, rows: &[OwnRow], place: usize) -> Result<Vec<Other
 
 /// Pushes ticket 0 on the deque of the first slot and runs each slot's worker, in as many threads. Where that push is
 /// refused none is run.
-pub fn run_slots<
+pub(crate) fn run_slots<
     W: Work + Sync,
     A: Capped + Sync,
     B: Ledger + Sync,

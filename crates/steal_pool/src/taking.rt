@@ -8,7 +8,7 @@ use crate::row::{OtherRow, OwnRow, StealOutcome};
 
 /// The next ticket. One whose push was refused comes before those in deques. After a stop no deque gives
 /// one.
-pub fn next_ticket(
+pub(crate) fn next_ticket(
     kept: &mut Vec<u32>,
     stopped: bool,
     own: &mut OwnRow,

@@ -20,7 +20,7 @@ use verdict_book::{Claim, ClaimFault, FileFault, Issued, JudgeShare, Judged, Wor
 
 /// Claims a ticket, and after the gate judges its item and files it. The answer is the cause for which
 /// the worker ends, if it does.
-pub fn one_ticket<W: Work, A: Capped, B: Ledger, C: Ledger, G: Gate, R: Wait>(
+pub(crate) fn one_ticket<W: Work, A: Capped, B: Ledger, C: Ledger, G: Gate, R: Wait>(
     rt: &R,
     book: &Mutex<LockedBook<W, A, B, C>>,
     work: &W,

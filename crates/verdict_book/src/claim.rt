@@ -43,7 +43,7 @@ pub enum ClaimFault {
 }
 
 /// Whether a ticket is kept as claimed and unfiled.
-pub fn is_claimed(kept: Kept) -> bool
+pub(crate) fn is_claimed(kept: Kept) -> bool
     ensures { result ≡ is_claimed kept }
 {
     matches!(kept, Kept::Claimed)

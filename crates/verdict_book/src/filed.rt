@@ -22,7 +22,7 @@ const ROWS_AT_ONCE: usize = 4096;
 
 /// The items and verdicts of rows of filed tickets, the last row first. The room of the rows is given back on
 /// the way.
-pub fn list_rows<W: Work>(
+pub(crate) fn list_rows<W: Work>(
     alloc: Global,
     mut rows: Vec<Row<W::Item, W::Verdict>>,
 ) -> Result<Vec<Filed<W>>, NoMemory>

@@ -14,7 +14,7 @@ use std::cmp::Ordering;
 /// Puts the elements, fewer than 2^32, in order. After an error they stand as before. It takes room for two numbers of 32
 /// bits an element: not the elements are sorted, but their places. Then each element goes where its place stands among
 /// them, by fewer exchanges than there are elements.
-pub fn sort_by_places<T: Ord>(alloc: Global, items: &mut Vec<T>) -> Result<(), NoMemory>
+pub(crate) fn sort_by_places<T: Ord>(alloc: Global, items: &mut Vec<T>) -> Result<(), NoMemory>
     requires few { vec_len items.old < 2 ^ 32 }
     ensures same { IsPermutation items.old.items items.new.items }
     ensures sorted { OnOk result (IsSorted T.cmp items.new.items) }

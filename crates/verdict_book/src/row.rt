@@ -8,7 +8,7 @@ use dns_data::List;
 
 /// How far a ticket has come.
 #[derive(Drop)]
-pub enum TicketState<V> {
+pub(crate) enum TicketState<V> {
     Issued,
     Claimed,
     Filed(V),
@@ -16,13 +16,13 @@ pub enum TicketState<V> {
 
 /// The item of a ticket, and how far the ticket has come.
 #[derive(Drop)]
-pub struct Row<I, V> {
+pub(crate) struct Row<I, V> {
     pub item: I,
     pub state: TicketState<V>,
 }
 
 /// What is kept of a ticket.
-pub fn kept_at<I, V>(rows: &[Row<I, V>], ticket: u32) -> Kept
+pub(crate) fn kept_at<I, V>(rows: &[Row<I, V>], ticket: u32) -> Kept
     ensures { result ≡ kept_row (slice_get rows.now ticket) }
 {
     match rows.get(ticket as usize) {
@@ -43,7 +43,7 @@ fn kept_state<V>(state: &TicketState<V>) -> Kept
 }
 
 /// Files the row at a place with its verdict, and puts rows of new tickets behind the others.
-pub fn file_row<I: Drop, V: Drop>(
+pub(crate) fn file_row<I: Drop, V: Drop>(
     rows: &mut Vec<Row<I, V>>,
     place: usize,
     verdict: V,

@@ -41,7 +41,7 @@ pub(crate) struct TargetEnds {
 
 impl DeadEnds {
     /// Their word.
-    pub fn word(&self) -> &'static str
+    pub(crate) fn word(&self) -> &'static str
         ensures { result.now ≡ ends_word self.now }
     {
         match self {
@@ -80,7 +80,7 @@ impl<'h, 'a> Model for Targeting<'h, 'a> {
 
 impl<'h, 'a> Targeting<'h, 'a> {
     /// What targets of these rows are asked by, while these servers are followed. None was asked yet.
-    pub fn new(
+    pub(crate) fn new(
         alloc: Global,
         hosts: &'h Hosts<'a>,
         followed: &'h [Name],
@@ -100,14 +100,14 @@ impl<'h, 'a> Targeting<'h, 'a> {
     }
 
     /// The servers with the trees of their zones.
-    pub fn hosts(&self) -> &'h Hosts<'a>
+    pub(crate) fn hosts(&self) -> &'h Hosts<'a>
         ensures { result.now ≡ self.now.setting.config }
     {
         self.hosts
     }
 
     /// The target of a record of a row's zone, where it counts.
-    pub fn target_of<'r>(&self, row: &RowFiles, rr: &'r Rr) -> Option<&'r Name>
+    pub(crate) fn target_of<'r>(&self, row: &RowFiles, rr: &'r Rr) -> Option<&'r Name>
         ensures { option_map (λ target. target.now) result ≡ target_in self.now.served row.now.origin rr.now.owner rr.now.rdata }
     {
         match &rr.rdata {
@@ -127,7 +127,7 @@ impl<'h, 'a> Targeting<'h, 'a> {
     }
 
     /// How the walks of a target end. Each target is asked once.
-    pub fn ends(&mut self, alloc: Global, target: &Name) -> Result<TargetEnds, NoMemory>
+    pub(crate) fn ends(&mut self, alloc: Global, target: &Name) -> Result<TargetEnds, NoMemory>
         ensures ends { IfOk result (λ ends. ends ≡ ends_in self.old.setting target.now) }
         ensures kept { self.new ≡ self.old }
     {

@@ -34,7 +34,7 @@ impl<T> Model for Few<T> {
 
 impl<T: Drop> Few<T> {
     /// No item.
-    pub fn new() -> Few<T>
+    pub(crate) fn new() -> Few<T>
         ensures { result ≡ [] }
     {
         Few {
@@ -43,7 +43,7 @@ impl<T: Drop> Few<T> {
     }
 
     /// The items of a vector.
-    pub fn from_vec(items: Vec<T>) -> Few<T>
+    pub(crate) fn from_vec(items: Vec<T>) -> Few<T>
         ensures { result ≡ items.items }
     {
         Few {
@@ -52,7 +52,7 @@ impl<T: Drop> Few<T> {
     }
 
     /// The items.
-    pub fn items(&self) -> &[T]
+    pub(crate) fn items(&self) -> &[T]
         requires { FitsInMemory T.row }
         ensures { result.now ≡ self.now }
     {
@@ -71,7 +71,7 @@ impl<T: Drop> Few<T> {
     }
 
     /// The items with another one behind them.
-    pub fn with(self, alloc: Global, item: T) -> Result<Few<T>, NoMemory>
+    pub(crate) fn with(self, alloc: Global, item: T) -> Result<Few<T>, NoMemory>
         ensures { IfOk result (λ few. few ≡ self ++ item ∷ []) }
     {
         match self.into_storage() {

@@ -30,7 +30,7 @@ impl Model for OrderedNames {
 
 impl OrderedNames {
     /// Names in order, of which the first is above the others.
-    pub fn of(alloc: Global, names: Vec<Name>) -> Result<OrderedNames, NoMemory>
+    pub(crate) fn of(alloc: Global, names: Vec<Name>) -> Result<OrderedNames, NoMemory>
         requires { AreBelowFirst names.items }
         ensures { IfOk result (λ ordered. ordered ≡ names.items) }
     {
@@ -39,7 +39,7 @@ impl OrderedNames {
     }
 
     /// The names.
-    pub fn items(&self) -> &[Name]
+    pub(crate) fn items(&self) -> &[Name]
         ensures same { result.now ≡ self.now }
         ensures ordered { AreInOrder self.now }
         ensures some { 0 < length self.now }
@@ -48,7 +48,7 @@ impl OrderedNames {
     }
 
     /// The names, and their keys.
-    pub fn with_keys(&self) -> (&[Name], &[u64])
+    pub(crate) fn with_keys(&self) -> (&[Name], &[u64])
         ensures same { result.0.now ≡ self.now }
         ensures keyed { AreKeyed result.0.now result.1.now }
     {

@@ -43,7 +43,7 @@ impl<'a> Model for OwnedData<'a> {
 
 impl<'a> OwnedData<'a> {
     /// What tells of the records that a name owns, which are in file order.
-    pub fn of(alloc: Global, own: &[&'a Rr]) -> Result<OwnedData<'a>, NoMemory>
+    pub(crate) fn of(alloc: Global, own: &[&'a Rr]) -> Result<OwnedData<'a>, NoMemory>
         ensures { IfOk result (λ owned. TellsData (map (λ rr. rr.now.rdata) own.now) owned) }
     {
         match short_form(own) {
@@ -55,7 +55,7 @@ impl<'a> OwnedData<'a> {
     }
 
     /// The types.
-    pub fn types(&self) -> TypeSet
+    pub(crate) fn types(&self) -> TypeSet
         ensures { (rtype : RrType) → has_bit result rtype ≡ has_bit self.now.types rtype }
     {
         match &self.form {
@@ -66,7 +66,7 @@ impl<'a> OwnedData<'a> {
     }
 
     /// The names of the name servers, in the order of names.
-    pub fn servers(&self) -> &[&'a Name]
+    pub(crate) fn servers(&self) -> &[&'a Name]
         ensures { result.now ≡ self.now.servers }
     {
         match &self.form {
@@ -76,7 +76,7 @@ impl<'a> OwnedData<'a> {
     }
 
     /// The data of a type, in the order of their texts, each once.
-    pub fn set(&self, t: RrType) -> &[Rdata]
+    pub(crate) fn set(&self, t: RrType) -> &[Rdata]
         ensures { result.now ≡ data_in self.now.sets t }
     {
         match &self.form {
@@ -93,7 +93,7 @@ impl<'a> OwnedData<'a> {
     }
 
     /// The first data of a type in file order.
-    pub fn first(&self, t: RrType) -> Option<&'a Rdata>
+    pub(crate) fn first(&self, t: RrType) -> Option<&'a Rdata>
         ensures { option_map (λ rdata. rdata.now) result ≡ first_in self.now.sets t }
     {
         match &self.form {
