@@ -8,6 +8,11 @@ GROOT is the built program, crates/groot/out/groot if none is given. It makes
 - 2,000 DNAME records onto a tree of 40 names, and a chain of 5,000 aliases,
 - 10,000 rows: 9,000 hosted zones, of which 999 have a second server, and the zone above them (899,915 records), and a
   ninth of that,
+- hosted zones without the zone above, whose 33, 128, 2,000 or 5,000 servers are all top servers, also with large zones,
+- a zone on 50 servers, 100 zones on 40, and 60 zones each delegated by the one before,
+- a chain of 400 DNAME records, and of half as many,
+- aliases to names that no zone has, and into the zone of another server,
+- IPv6 addresses' names, one set of 100,000 addresses, and lame delegations,
 - a zone of four records on 4,000 servers, all of them top servers, and on a fourth of that.
 
 For each it prints the processor seconds and the peak memory of `check` with one worker, the processor seconds of `ask` of
@@ -82,6 +87,31 @@ def on_many(servers):
     return lambda folder: make_zone.write_on_many(servers, folder)
 
 
+def without_above(servers, zones, records):
+    """What writes hosted zones of two servers each, with no zone above."""
+    return lambda folder: make_zone.write_without_above(servers, zones, records, folder)
+
+
+def on_all(servers, zones, records):
+    """What writes zones that each stand on all servers."""
+    return lambda folder: make_zone.write_on_all(servers, zones, records, folder)
+
+
+def nested(depth, records):
+    """What writes zones, each delegated by the one before."""
+    return lambda folder: make_zone.write_nested(depth, records, folder)
+
+
+def across(count):
+    """What writes aliases into another server's zone."""
+    return lambda folder: make_zone.write_across(count, folder)
+
+
+def reverse(count):
+    """What writes a zone of IPv6 addresses' names."""
+    return lambda folder: make_zone.write_reverse(count, folder)
+
+
 def mixed(octets):
     """What writes a zone of so many octets with records of all kinds."""
 
@@ -108,6 +138,21 @@ def inputs(part):
         Input("chain of aliases", one_zone(make_zone.aliases, 5_000 // part), "example.", "aliases, a tenth", 12),
         Input("rows, a ninth", hosted(1_000 // part, 111 // part, 89)),
         Input("10,000 rows", hosted(9_000 // part, 999 // part, 89), None, "rows, a ninth", 11, memory=300),
+        Input("33 tops", without_above(33, 200 // part, 100), all_top=True),
+        Input("128 tops", without_above(128, 200 // part, 100), None, "33 tops", 1.3, all_top=True),
+        Input("2,000 tops", without_above(2_000 // part, 2_000 // part, 5), memory=40, seconds=3, all_top=True),
+        Input("5,000 tops", without_above(5_000 // part, 5_000 // part, 5), None, "2,000 tops", 3.5, memory=80, seconds=8, all_top=True),
+        Input("zones of many tops", without_above(64, 64 // part, 1_000), all_top=True),
+        Input("50 servers", on_all(50, 1, 1_000 // part)),
+        Input("40 servers", on_all(40, 100 // part, 100)),
+        Input("nested zones", nested(60, 10)),
+        Input("chain of DNAMEs, half", one_zone(make_zone.chained_redirections, 200 // part), "example."),
+        Input("chain of DNAMEs", one_zone(make_zone.chained_redirections, 400 // part), "example.", "chain of DNAMEs, half", 9, seconds=0.5),
+        Input("aliases outside", one_zone(make_zone.outside, 10_000 // part), "example."),
+        Input("aliases across", across(10_000 // part)),
+        Input("ip6.arpa", reverse(10_000 // part), "ip6.arpa."),
+        Input("one set", one_zone(make_zone.one_set, 100_000 // part), "example."),
+        Input("lame delegations", one_zone(make_zone.lame, 5_000 // part), "example."),
         Input("tops, a fourth", on_many(1_000 // part), all_top=True),
         Input("4,000 top servers", on_many(4_000 // part), None, "tops, a fourth", 5, seconds=3, all_top=True),
     ]
@@ -162,7 +207,7 @@ def check_one(groot, given, taken, runs):
     """Checks one input, and prints what that takes, beside ask and kzonecheck."""
     with tempfile.TemporaryDirectory() as folder:
         rows = given.write(folder)
-        tops = [row["NameServer"] for row in (rows if given.all_top else rows[:1])]
+        tops = list(dict.fromkeys(row["NameServer"] for row in (rows if given.all_top else rows[:1])))
         meta = metadata(folder, rows, *tops)
         words = [groot, "check", meta, "--classes", "1000000", "--workers"]
         check = measured([*words, "1"], (0, 1), runs)

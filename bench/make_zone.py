@@ -163,6 +163,104 @@ def write_hosted(zones, second, records, folder):
     return rows
 
 
+def outside(count):
+    """The lines of so many aliases to names of which no zone is configured."""
+    return (f"a{number} CNAME target{number}.elsewhere.\n" for number in range(count))
+
+
+def one_set(count):
+    """The lines of one name with so many addresses."""
+    return (f"many A 10.{number // 65536}.{number // 256 % 256}.{number % 256}\n" for number in range(count))
+
+
+def chained_redirections(count):
+    """The lines of so many DNAME records, each of which redirects to the owner of the next one."""
+    yield from (f"d{number} DNAME d{number + 1}\n" for number in range(count))
+    yield f"w.d{count} A 192.0.2.2\n"
+
+
+def lame(count):
+    """The lines of so many delegations to the zone's own server, which has none of these zones."""
+    return (f"d{number} NS ns1\n" for number in range(count))
+
+
+def reverse(count):
+    """The lines of so many PTR records of IPv6 addresses (RFC 3596 section 2.5), absolute names of 34 labels."""
+    for number in range(count):
+        digits = ".".join(reversed(f"20010db8000000000000{number:012x}"))
+        yield f"{digits}.ip6.arpa. PTR host{number}\n"
+
+
+def write_reverse(count, folder):
+    """The zone ip6.arpa. with so many PTR records on one server, and the rows of the metadata for it."""
+    with open(os.path.join(folder, "own.zone"), "w") as into:
+        into.write("$TTL 1h\n$ORIGIN ip6.arpa.\n@ SOA ns1.example. h.example. 1 3h 15m 1w 1h\n@ NS ns1.example.\n$ORIGIN example.\n")
+        into.writelines(reverse(count))
+    return [{"FileName": "own.zone", "NameServer": "ns1.example.", "Origin": "ip6.arpa."}]
+
+
+def write_zone_of(origin, servers, lines, path):
+    """A zone file with these name servers and lines."""
+    with open(path, "w") as into:
+        into.write(f"$TTL 1h\n$ORIGIN {origin}\n@ SOA {servers[0]} hostmaster.{origin} 1 3h 15m 1w 1h\n")
+        into.writelines(f"@ NS {name}\n" for name in servers)
+        into.writelines(lines)
+
+
+def hosts_of(count):
+    """The lines of so many hosts with an address each."""
+    return (f"host{number} A 10.0.{number // 256 % 256}.{number % 256}\n" for number in range(count))
+
+
+def write_without_above(servers, zones, records, folder):
+    """So many zones of so many records, each on two of so many servers, with no zone above them; the rows of the metadata."""
+    names = [f"ns{number}.host." for number in range(servers)]
+    rows = []
+    for number in range(zones):
+        pair = [names[number % servers], names[(number + 1) % servers]]
+        write_zone_of(f"customer{number}.example.", pair, hosts_of(records - 3), os.path.join(folder, f"{number}.zone"))
+        rows += [{"FileName": f"{number}.zone", "NameServer": name} for name in pair]
+    return rows
+
+
+def write_on_all(servers, zones, records, folder):
+    """So many zones of so many records, each on all of so many servers, and the zone above them on one server; the rows of the
+    metadata."""
+    names = [f"ns{number}.host." for number in range(servers)]
+    cuts = (f"customer{number} NS {name}\n" for number in range(zones) for name in names)
+    rows = write_example(cuts, folder)
+    for number in range(zones):
+        write_zone_of(f"customer{number}.example.", names, hosts_of(records - 1 - servers), os.path.join(folder, f"{number}.zone"))
+        rows += [{"FileName": f"{number}.zone", "NameServer": name} for name in names]
+    return rows
+
+
+def write_nested(depth, records, folder):
+    """So many zones, each delegated by the one before to a server of its own with glue, with so many hosts; the rows of the
+    metadata."""
+    rows, origin = [], "example."
+    for level in range(depth):
+        below = [f"z NS ns.z\nns.z A 192.0.2.{level + 1}\n"] if level + 1 < depth else []
+        own = ["ns A 192.0.2.{level}\n".format(level=level)]
+        write_zone_of(origin, [f"ns.{origin}"], [*own, *below, *hosts_of(records)], os.path.join(folder, f"{level}.zone"))
+        rows.append({"FileName": f"{level}.zone", "NameServer": f"ns.{origin}"})
+        origin = f"z.{origin}"
+    return rows
+
+
+def write_across(count, folder):
+    """A zone of so many aliases to names of a zone on another server, and that zone, both delegated; the rows of the metadata."""
+    cuts = ["a NS ns.a\nns.a A 192.0.2.2\nb NS ns.b\nns.b A 192.0.2.3\n"]
+    rows = write_example(cuts, folder)
+    aliases_to_b = (f"h{number} CNAME h{number}.b.example.\n" for number in range(count))
+    hosts = (f"h{number} A 10.0.{number // 256 % 256}.{number % 256}\n" for number in range(count))
+    for label, address, lines in (("a", 2, aliases_to_b), ("b", 3, hosts)):
+        path = os.path.join(folder, f"{label}.zone")
+        write_zone_of(f"{label}.example.", [f"ns.{label}.example."], [f"ns A 192.0.2.{address}\n", *lines], path)
+        rows.append({"FileName": f"{label}.zone", "NameServer": f"ns.{label}.example."})
+    return rows
+
+
 LETTERS = "abcdefghijklmnopqrstuvwxyz0123456789"
 
 
