@@ -1,65 +1,24 @@
 #!/usr/bin/env bash
-# Tries tools/gate, the pipelines that call it, and the lines of docs/COMMANDS.md for the scopes of a change, on a repository
-# made of examples/own-servers: pipelines.sh PROGRAM
+# Tries tools/gate, the pipelines that call it, and tools/changed, on repositories made of examples/own-servers:
+# pipelines.sh PROGRAM
 #
-# PROGRAM is the built groot. groot-map is used as far as it is on the path. The lines of the pipelines run as they stand, with
+# PROGRAM is the built groot; groot-map is on the path. The lines of the pipelines run as they stand, with
 # stand-ins for what only a runner has. Ends with status 1 if a step ends in another way than it should.
-set -u
-top=$(cd "$(dirname "$0")/.." && pwd)
-program=$(realpath "$1")
-scratch=$(mktemp -d)
-trap 'rm -rf "$scratch"' EXIT
-wrong=0
+what=pipelines
+# shellcheck source=.ci/expect.sh
+. "$(dirname "$0")/expect.sh"
+need_full_device
+install_programs "$1"
 
-# expect STATUS WHAT COMMAND ..: the command ends with this status; its output is kept in $scratch/said.
-expect() {
-    local wanted=$1 what=$2
-    shift 2
-    "$@" >"$scratch/said" 2>&1 </dev/null
-    local status=$?
-    if [ "$status" -ne "$wanted" ]; then
-        echo "pipelines: $what: status $status, not $wanted"
-        cat "$scratch/said"
-        wrong=1
-    fi
-}
-
-# said TEXT: the last command said this. holds FILE FILTER: so does a file of the last report, for jq.
-said() {
-    grep -qF -- "$1" "$scratch/said" || { echo "pipelines: it doesn't say: $1"; cat "$scratch/said"; wrong=1; }
-}
-holds() {
-    jq -e "$2" "groot-report/$1" >/dev/null || { echo "pipelines: $1 isn't as it should be: $2"; wrong=1; }
-}
-
-# knows WORD: groot-map is on the path and has this command.
-knows() {
-    command -v groot-map >/dev/null && groot-map 2>&1 | grep -qw "$1"
-}
-
-# The repository of an operator: the example's configuration and zone file, and no fault that is known.
-make_repository() {
-    repository=$scratch/$1
-    mkdir -p "$repository/etc/bind/zones" "$repository/ci"
-    cd "$repository" || exit 2
-    cp "$top/examples/own-servers/named.conf" etc/bind/
-    cp "$top/examples/own-servers/zones/example.com.zone" etc/bind/zones/
-    cp "$top/examples/own-servers/report.json" ci/known.json
-}
-
-# The programs that an install puts on the path, and stand-ins for those of a runner.
-mkdir "$scratch/bin" "$scratch/runner" "$scratch/bare"
-ln -s "$program" "$scratch/bin/groot"
-ln -s "$top/tools/gate" "$scratch/bin/groot-gate"
-ln -s "$top/tools/metadata" "$scratch/bin/groot-metadata"
+# Stand-ins for the programs of a runner.
+mkdir "$scratch/runner" "$scratch/bare"
 for tool in apt-get dpkg ln mkdir sudo; do
     printf '#!/bin/sh\necho "%s $*" >>"%s/runner/said"\n' "$tool" "$scratch" >"$scratch/runner/$tool"
 done
+# shellcheck disable=SC2016  # these are the lines of a script
 printf '#!/bin/sh\ncat "${2#/}"\n' >"$scratch/runner/named-checkconf"
 chmod +x "$scratch"/runner/*
 ln -s "$(python3 -c 'import sys; print(sys.executable)')" "$scratch/bare/python3"
-PATH=$scratch/bin:$PATH:/usr/sbin
-
 command -v named-checkconf >/dev/null \
     || echo "pipelines: named-checkconf isn't there (Debian: bind9-utils), so the gate reads the configuration as printed"
 
@@ -98,11 +57,7 @@ said "old.example.com. to gone.example.com."
 holds new.json '.faults | length == 1'
 holds report.json '.faults | length == 2'
 cp groot-report/report.json ci/both.json
-if knows records; then
-    holds report.sarif ".runs[0].results[0].locations[0].physicalLocation | .artifactLocation.uri == \"$zone\" and .region.startLine == 11"
-else
-    echo "pipelines: no groot-map on the path, so lines of files aren't tried"
-fi
+holds report.sarif ".runs[0].results[0].locations[0].physicalLocation | .artifactLocation.uri == \"$zone\" and .region.startLine == 11"
 
 expect 2 "a known report over which the run writes" groot-gate --old groot-report/report.json metadata.json
 expect 2 "no known report" groot-gate --old ci/nothing.json metadata.json
@@ -111,49 +66,46 @@ expect 8 "a known report that is none" groot-gate --old ci/empty.json metadata.j
 expect 2 "no word" groot-gate
 expect 2 "no program" env PATH="$scratch/bare" "$top/tools/gate" metadata.json
 said "groot isn't on the path"
-[ ! -e groot-report/report.json ] || { echo "pipelines: an old report is left where a program is missing"; wrong=1; }
+[ ! -e groot-report/report.json ] || fault "an old report is left where a program is missing"
 
-if knows reached; then
-    twin=("${steps[@]}" --also ns1.example.com.=ns1.exmaple.com. --top ns1.example.com.)
-    cp ci/both.json ci/known.json
-    expect 1 "a row that no query reaches" "${twin[@]}"
-    said "ns1.exmaple.com.: example.com.: no query reaches this row"
-    said "rows that no query reaches: 1"
-    expect 1 "the same with metadata that stand" groot-gate --old ci/known.json metadata.json
-    said "gate: ns1.exmaple.com.: example.com.: no query reaches this row"
-    expect 0 "a row that no query needs to reach" groot-gate --unasked ns1.exmaple.com "${twin[@]:1}"
-else
-    echo "pipelines: no groot-map with the command reached on the path, so rows that no query reaches aren't tried"
-fi
+cp ci/both.json ci/known.json
+expect 0 "another name of a server" "${steps[@]}" --also ns1.example.com.=ns1.exmaple.com. --top ns1.example.com.
+twin=("${steps[@]}" --zone ns1.exmaple.com.=example.com.:"$zone" --top ns1.example.com.)
+expect 1 "a row that no query reaches" "${twin[@]}"
+said "ns1.exmaple.com.: example.com.: no query reaches this row"
+said "rows that no query reaches: 1"
+expect 1 "the same with metadata that stand" groot-gate --old ci/known.json metadata.json
+said "row 2, zone example.com., on ns1.exmaple.com. (etc/bind/zones/example.com.zone:1)"
+expect 0 "a row that no query needs to reach" groot-gate --unasked ns1.exmaple.com "${twin[@]:1}"
 
 sed -i 's/^mail .*/mail    IN A     192.0.2.256/' $zone
 expect 3 "a zone file that is refused" "${steps[@]}"
 said "$zone:7: bad-address"
-[ ! -e groot-report/report.sarif ] || { echo "pipelines: an old report is left"; wrong=1; }
+[ ! -e groot-report/report.sarif ] || fault "an old report is left"
 rm $zone
 expect 2 "no zone file" "${steps[@]}"
 said "no metadata, so nothing was checked"
 
 # With a zone above that is made, what leads out of the zones is no fault, and delegations are checked.
-if knows records; then
-    make_repository above
-    name_server
-    printf '%s\n' 'office  IN CNAME autodiscover.outlook.com.' 'old     IN DNAME elsewhere.example.' >>$zone
-    expect 0 "aliases that leave the zones" groot-gate metadata.json "${server[@]}" --above above
-    said "no fault"
-    holds report.json '.names == 19'
-    echo '@       IN NS    ns2' >>$zone
-    expect 1 "a name server without an address" groot-gate metadata.json "${server[@]}" --above above
-    said "missing-glue"
-    holds report.json '.faults | map(.kind) == ["missing-glue"]'
-fi
+make_repository above
+name_server
+printf '%s\n' 'office  IN CNAME autodiscover.outlook.com.' 'old     IN DNAME elsewhere.example.' >>$zone
+expect 0 "aliases that leave the zones" groot-gate metadata.json "${server[@]}" --above above
+said "no fault"
+holds report.json '.names == 19'
+echo '@       IN NS    ns2' >>$zone
+expect 1 "a name server without an address" groot-gate metadata.json "${server[@]}" --above above
+said "missing-glue"
+holds report.json '.faults | map(.kind) == ["missing-glue"]'
 
 # 2. The lines of the pipelines, as their runners run them.
 make_repository runner
+# shellcheck disable=SC2317  # it is called by its name
 github() {
     awk '/^ *run: [|]$/ { inside = 1; next } inside && !/^          / { inside = 0 } inside { print substr($0, 11) }' \
         "$top/tools/pipelines/github-actions.yml"
 }
+# shellcheck disable=SC2317
 gitlab() {
     awk '/^  script:$/ { inside = 1; next } inside && !/^    / { exit }
          inside { printf "%s%s", (count++ == 0 ? "" : substr($0, 5, 1) == "-" ? "\n" : " "), substr($0, 7) }
@@ -161,6 +113,7 @@ gitlab() {
         "$top/tools/pipelines/gitlab-ci.yml"
 }
 # as_yaml FOLDER: the files, read as YAML, have the lines of github.sh and gitlab.sh in the folder, and steps of the known form.
+# shellcheck disable=SC2317
 as_yaml() {
     python3 - "$top/tools/pipelines" "$1" <<'EOF'
 import pathlib
@@ -180,7 +133,13 @@ assert set(job) == {"image", "script", "artifacts"} and set(job["artifacts"]) ==
 assert "".join(line + "\n" for line in job["script"]) == (lines / "gitlab.sh").read_text().lstrip("\n")
 EOF
 }
-for pipeline in github gitlab; do
+# by_link: the lines of docs/PIPELINES.md for a named.conf that the runner reads.
+# shellcheck disable=SC2317
+by_link() {
+    awk '/^If `named.conf` can be read on the runner/ { found = 1 } found && /^```$/ { if (inside) exit; inside = 1; next } inside' \
+        "$top/docs/PIPELINES.md"
+}
+for pipeline in github gitlab by_link; do
     "$pipeline" >"$scratch/$pipeline.sh"
 done
 if python3 -c 'import yaml' 2>/dev/null; then
@@ -188,15 +147,18 @@ if python3 -c 'import yaml' 2>/dev/null; then
 else
     echo "pipelines: PyYAML isn't there (Debian: python3-yaml), so the files of the pipelines aren't read as YAML"
 fi
-for pipeline in github gitlab; do
+for pipeline in github gitlab by_link; do
     run=(env PATH="$scratch/runner:$PATH" bash --noprofile --norc -e -o pipefail "$scratch/$pipeline.sh")
     cp "$top/examples/own-servers/zones/example.com.zone" etc/bind/zones/
     rm -f "$scratch/runner/said"
     expect 0 "$pipeline: no fault" "${run[@]}"
     said "no fault"
-    grep -q "ci/groot.deb" "$scratch/runner/said" || { echo "pipelines: $pipeline installs nothing"; wrong=1; }
+    grep -q "ci/groot.deb\|/etc/bind" "$scratch/runner/said" || fault "$pipeline prepares nothing"
     sed -i 's/^shop .*/shop    IN CNAME wwww/' $zone
     expect 1 "$pipeline: a new fault" "${run[@]}"
+    sed -i 's/wwww/www/; $a @ IN MX 10 gone' $zone
+    expect 1 "$pipeline: a mail host without an address" "${run[@]}"
+    said "MX to gone.example.com."
     sed -i 's/^mail .*/mail    IN A     192.0.2.256/' $zone
     expect 3 "$pipeline: a refused file" "${run[@]}"
 done
@@ -213,38 +175,79 @@ git add .
 expect 1 "hook: a commit with a fault" "${commit[@]}"
 said "shop.example.com. to wwww.example.com."
 git checkout -q HEAD -- $zone
+echo '@       IN MX    10 gone' >>$zone
+git add .
+expect 1 "hook: a commit of a mail host without an address" "${commit[@]}"
+said "example.com. MX to gone.example.com."
+git checkout -q HEAD -- $zone
 echo '; a comment' >>$zone
 git add .
 sed -i 's/^shop .*/shop    IN CNAME wwww/' $zone
 expect 0 "hook: a fault that isn't committed" "${commit[@]}"
-[ -z "$(git status --porcelain -- groot-report metadata.json)" ] || { echo "pipelines: the hook leaves files"; wrong=1; }
+[ -z "$(git status --porcelain -- groot-report metadata.json)" ] || fault "the hook leaves files"
 
-# 4. The scopes of the zones that a change touches: the lines of docs/COMMANDS.md, in a repository with a second zone.
-make_repository scopes
+# 4. The scopes of the zones that a change touches, in a repository whose folder and files have any names.
+make_repository 'changed & |more'
 # scopes_are COUNT: the last command printed the reports of so many scopes.
 scopes_are() {
-    [ "$(grep -c '"scope":' "$scratch/said")" -eq "$1" ] || { echo "pipelines: scopes: not $1"; cat "$scratch/said"; wrong=1; }
+    [ "$(grep -c '"scope":' "$scratch/said")" -eq "$1" ] || { fault "groot-changed: not $1 scopes"; cat "$scratch/said"; }
 }
-second=$(sed -n '/^zone/,$p' etc/bind/named.conf)
-echo "${second//example.com/example.org}" >>etc/bind/named.conf
-cp $zone etc/bind/zones/example.org.zone
+odd="etc/bind/zones/käse & co|x.zone"
+cp "$zone" "$odd"
+echo 'shared  IN A 192.0.2.77' >etc/bind/zones/more.inc
+echo "\$INCLUDE etc/bind/zones/more.inc" >>"$odd"
+cat >metadata.json <<EOF
+{"TopNameServers": ["ns1.example.com."], "ZoneFiles": [
+  {"FileName": "$zone", "NameServer": "ns1.example.com.", "Origin": "example.com."},
+  {"FileName": "$odd", "NameServer": "ns1.example.com.", "Origin": "-x.example.org."}]}
+EOF
 git init -q .
 git add .
-expect 0 "scopes: a commit" "${commit[@]}"
+expect 0 "changed: a commit" "${commit[@]}"
 git update-ref refs/remotes/origin/main HEAD
 awk '/^For the zones whose files a change touches/ { found = 1 } found && /^```$/ { if (inside) exit; inside = 1; next } inside' \
-    "$top/docs/COMMANDS.md" >"$scratch/scopes.sh"
-run=(env PATH="$scratch/runner:$PATH" bash --noprofile --norc -e -o pipefail "$scratch/scopes.sh")
-expect 0 "scopes: no change" "${run[@]}"
+    "$top/docs/COMMANDS.md" >"$scratch/changed.sh"
+run=(bash --noprofile --norc -e -o pipefail "$scratch/changed.sh")
+expect 0 "changed: no file" "${run[@]}"
 scopes_are 0
 echo 'news    IN CNAME www' >>$zone
-expect 0 "scopes: a change without a fault" "${run[@]}"
+expect 0 "changed: a file without a fault" "${run[@]}"
 said '"faults":[]'
 said '"scope":"example.com."'
 scopes_are 1
-sed -i 's/^shop .*/shop    IN CNAME wwww/' $zone
-expect 123 "scopes: a change with a fault" "${run[@]}"
-said '"query":"shop.example.com."'
+git checkout -q -- .
+sed -i 's/^shop .*/shop    IN CNAME wwww/' "$odd"
+echo text >readme
+expect 1 "changed: a file whose name git quotes, with a fault" "${run[@]}"
+said '"query":"shop.-x.example.org."'
+said 'no zone of META is read from them: readme'
+scopes_are 1
+git checkout -q -- .
+echo 'gone    IN CNAME nowhere' >>etc/bind/zones/more.inc
+git config diff.relative true
+expect 1 "changed: an included file, from a folder below" env -C etc groot-changed --since origin/main ../metadata.json
+said '"query":"gone.-x.example.org."'
+git checkout -q -- .
+mkdir flat
+cp $zone flat/x.zone
+printf '%s\n' "groot-metadata lines 1" "1	99	1	1	$PWD/$zone" >flat/x.zone.lines
+sed "s#$zone#flat/x.zone#" metadata.json >flat.json
+expect 0 "changed: a written-out text, whose file stands" groot-changed flat.json
+scopes_are 0
+echo '; a comment' >>$zone
+expect 0 "changed: the file of a written-out text" groot-changed flat.json
+scopes_are 1
+echo 'gone    IN CNAME nowhere' >>etc/bind/zones/more.inc
+expect 0 "changed: the names of zones" groot-changed --names metadata.json
+said '-x.example.org.'
+expect 6 "changed: a full output" bash -c 'groot-changed metadata.json >/dev/full'
+said "the standard output: No space left on device"
+expect 6 "changed: a closed output" bash -c 'groot-changed metadata.json >&-'
+expect 2 "changed: no such commit" groot-changed --since nowhere metadata.json
+said "changed: git failed; run it in a clone with its history"
+expect 2 "changed: no word" groot-changed
+echo 'broken' >>"$odd"
+expect 3 "changed: a refused file" groot-changed metadata.json
 
-[ $wrong -ne 0 ] || echo "pipelines: the gate, the lines of two pipelines, the hook and the scopes of a change end as they should"
+[ $wrong -ne 0 ] || echo "pipelines: the gate, the lines of two pipelines, the hook and groot-changed end as they should"
 exit $wrong

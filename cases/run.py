@@ -10,6 +10,7 @@ import copy
 import difflib
 import json
 import os
+import pathlib
 import shlex
 import subprocess
 import sys
@@ -265,6 +266,13 @@ def build(name):
     return built
 
 
+def check_devices(cases):
+    """Refuses to run cases that write to a device which a file has replaced."""
+    for output in sorted({case.output for case in cases if case.output}):
+        if output.startswith("/dev/") and not pathlib.Path(output).is_char_device():
+            raise SystemExit(f"{output} is no device here, so the cases that write to it say nothing: make it anew (mknod)")
+
+
 def main(words):
     check_the_checker()
     programs = {}
@@ -278,6 +286,7 @@ def main(words):
     wrong = len(names) - len(set(names))
     if wrong:
         print(f"two cases have one name: {sorted(name for name in set(names) if names.count(name) > 1)}")
+    check_devices(cases)
     for case in cases:
         lines = ways_it_is_wrong(programs[case.program], case)
         if lines:

@@ -1,4 +1,4 @@
-# Completion of groot, groot-map, groot-metadata and groot-gate in bash.
+# Completion of groot, groot-map, groot-metadata, groot-gate and groot-changed in bash.
 
 # The options of a command.
 _groot_options() {
@@ -44,39 +44,55 @@ _groot() {
     mapfile -t COMPREPLY < <(compgen -W "$words" -- "$word")
 }
 
-_groot_metadata_options="--server --root --also --zone --top --view --leave-out --flatten --published --above --records --output --help"
+_groot_metadata_options="--server --by-ns --root --also --zone --zones --catalog --key --primary --top --view --leave-out --flatten \
+--published --above --records --output --help"
 
 _groot_metadata() {
     local word=${COMP_WORDS[COMP_CWORD]} before=${COMP_WORDS[COMP_CWORD - 1]}
     COMPREPLY=()
     case $before in
-        --output | --flatten | --above | --records | :) _groot_files "$word" ;;
-        --server | --root | --also | --zone | --top | --view | --leave-out | =) ;;
+        --output | --flatten | --above | --records | --by-ns | :) _groot_files "$word" ;;
+        --server | --root | --also | --zone | --zones | --catalog | --key | --primary | --top | --view | --leave-out | =) ;;
         *) mapfile -t COMPREPLY < <(compgen -W "$_groot_metadata_options" -- "$word") ;;
     esac
 }
 
+_groot_gate_options="--old --old-targets --unasked --into --classes --rewrites --workers --without-map --help"
+
 _groot_gate() {
-    local word=${COMP_WORDS[COMP_CWORD]} before=${COMP_WORDS[COMP_CWORD - 1]} place
+    local word=${COMP_WORDS[COMP_CWORD]} before=${COMP_WORDS[COMP_CWORD - 1]} place meta=
     COMPREPLY=()
+    case $before in
+        --unasked | --classes | --rewrites | --workers) return ;;
+        --old | --old-targets | --into) _groot_files "$word" ; return ;;
+    esac
     for ((place = 1; place < COMP_CWORD; place++)); do
         case ${COMP_WORDS[place]} in
-            --old | --into | --unasked) ((place++)) ;;
+            --old | --old-targets | --into | --unasked | --classes | --rewrites | --workers) ((place++)) ;;
             --*) ;;
-            *) _groot_metadata ; return ;;
+            *) meta=yes ;;
         esac
     done
-    case $before in
-        --unasked) ;;
-        --old | --into) _groot_files "$word" ;;
-        *)
-            if [[ $word == -* ]]; then
-                mapfile -t COMPREPLY < <(compgen -W "--old --unasked --into --help" -- "$word")
-            else
-                _groot_files "$word"
-            fi
-            ;;
-    esac
+    if [[ $meta ]]; then
+        _groot_metadata
+        [[ $word != -* ]] || mapfile -t -O "${#COMPREPLY[@]}" COMPREPLY < <(compgen -W "$_groot_gate_options" -- "$word")
+    elif [[ $word == -* ]]; then
+        mapfile -t COMPREPLY < <(compgen -W "$_groot_gate_options" -- "$word")
+    else
+        _groot_files "$word"
+    fi
+}
+
+_groot_changed() {
+    local word=${COMP_WORDS[COMP_CWORD]} before=${COMP_WORDS[COMP_CWORD - 1]}
+    COMPREPLY=()
+    if [[ $before == --since ]]; then
+        mapfile -t COMPREPLY < <(compgen -W "$(git for-each-ref --format='%(refname:short)' 2>/dev/null)" -- "$word")
+    elif [[ $word == -* ]]; then
+        mapfile -t COMPREPLY < <(compgen -W "--since --names --help" -- "$word")
+    else
+        _groot_files "$word"
+    fi
 }
 
 _groot_map() {
@@ -92,3 +108,4 @@ complete -F _groot groot
 complete -F _groot_map groot-map
 complete -F _groot_metadata groot-metadata
 complete -F _groot_gate groot-gate
+complete -F _groot_changed groot-changed

@@ -1,5 +1,7 @@
 # What the views share: the kinds in words, the causes behind entries, their places and walks, and how text is escaped.
-# `$records` is what `by_place` makes of a list of records; without one no file and line is known.
+# `$records` is what `by_place` makes of a list of records; without one no file and line is known. `$given` has the lists of
+# groot-map by their words: records, reached and targets, each as text or absent; and in `lines` where the lines of written-out
+# files come from.
 
 # Of each kind: what goes wrong, what mends it, and how grave it is.
 def kinds: {
@@ -22,26 +24,37 @@ def kinds: {
   "overlong": {level: "error", what: "a DNAME record makes a name of more than 255 octets",
     mend: "let it lead to a shorter name, or not below itself"},
   "no-address": {level: "error", what: "a delegation names a server whose address can't be found",
-    mend: "give its name an address, or name another server"}};
+    mend: "give its name an address, or name another server"},
+  "target-without-address": {level: "error", what: "a record leads to a name that has no address",
+    mend: "give the name an address, or let the record lead to another one"},
+  "unreached-row": {level: "warning", what: "no query reaches a row of the metadata, so its file mostly goes unchecked",
+    mend: "correct the server's name, or the delegation that should lead to it"}};
 
-# The entries of a report, numbered as jq counts them; an error if the input is no report.
-def entries: [.faults? | arrays | to_entries | map(.value + {entry: .key})][0] // error("this is no report of groot check");
+# The entries of a report, numbered from 1 as `groot recheck` counts them; an error if the input is no report.
+def entries: [.faults? | arrays | to_entries | map(.value + {entry: (.key + 1)})][0] // error("this is no report of groot check");
 def by_kind: group_by(.kind) | sort_by(.[0].entry);
 
 # What tells faults of two reports apart: kind, place, and the end of each walk with its data.
 def key: [.kind, .place, (.walks | map(last))] | tojson;
 
-# Text without the characters that a terminal obeys or XML can't hold; the same as text of HTML and XML; and of DOT.
-def shown: explode | map(if . < 32 or (. > 126 and . < 160) or . == 65534 or . == 65535 then 65533 else . end) | implode;
+# Text without the characters that a terminal obeys, that turn its direction, that have no width, or that XML can't hold; the same as text of HTML
+# and XML; and of DOT.
+def is_obeyed: . < 32 or (. > 126 and . < 160) or . == 1564 or (. > 8202 and . < 8208) or (. > 8231 and . < 8239)
+  or (. > 8287 and . < 8298) or . == 65279 or . == 65534 or . == 65535;
+def shown: if test("^[ -~]*\\z") then . else explode | map(if is_obeyed then 65533 else . end) | implode end;
 def marked: shown | @html | split("&apos;") | join("&#39;");
 def quoted: shown | split("\\") | join("\\\\") | split("\"") | join("\\\"") | split("&") | join("&amp;") | "\"\(.)\"";
 def distinct: to_entries | group_by(.value) | map(.[0]) | sort_by(.key) | map(.value);
-def counted($word): "\(.) \($word)\(if . == 1 then "" else "s" end)";
+def counted($one; $several): "\(.) \(if . == 1 then $one else $several end)";
+def counted($word): counted($word; $word + "s");
 
-# A name's labels, the lowest first; the name and all names above it; and what names are sorted by.
-def labels: [scan("(?:[^\\\\.]|\\\\[0-9]{3}|\\\\[^0-9])+")];
+# A name's labels, the lowest first; the name and all names above it; the name above it; what names are sorted by; and whether
+# it stands among the addresses.
+def labels: if contains("\\") then [scan("(?:[^\\\\.]|\\\\[0-9]{3}|\\\\[^0-9])+")] else rtrimstr(".") | split(".") end;
 def upwards: labels as $labels | [range(0; $labels | length) | $labels[.:] | map(. + ".") | add] + ["."];
+def parent: upwards[1] // ".";
 def name_order: labels | reverse;
+def is_reverse: ".\(.)" | endswith(".in-addr.arpa.") or endswith(".ip6.arpa.");
 
 # An entry's last rewrite; the steps at which its two walks part; and its zone. They part at the first steps, referrals
 # aside, that say different things. If these are in different zones, one server refers where the other one answers: they
@@ -52,13 +65,22 @@ def parting: .walks as $walks | $walks | map(map(select(.did != "refer"))) as [$
   | . as [$left, $right] | if $left.zone == $right.zone then . else first(
       ($walks[1][] | select([.zone, .name] == [$left.zone, $left.name]) | [$left, .]),
       ($walks[0][] | select([.zone, .name] == [$right.zone, $right.name]) | [., $right]), .) end;
-def zone: .place.zone // parting[0].zone;
-def level: if .kind == "blackhole" and rewrite.did == "dname" then "note" else kinds[.kind].level end;
+def parted: .parted // parting;
+def zone: .place.zone // parted[0].zone;
+# An entry with what is asked of it often.
+def weighed: if .place.name then .parted = parting else . end | .zone = zone | .server = (.place.server // .parted[0].server);
+def level: if .kind == "blackhole" and (rewrite.did == "dname" or (.place.owner | is_reverse)) then "note" else kinds[.kind].level end;
 # What is at fault in one line, without its server.
 def subject: .place as $place | if $place.ns then "\($place.cut) to \($place.ns)"
   elif .kind == "blackhole" and rewrite.did == "cname" then "\($place.owner) to \(rewrite.to)"
   elif $place.owner then $place.owner
   elif $place.class == "below" then "names below \($place.name)" else $place.name end;
+# How many rewrites lead to the place of an entry; and of several entries the one to whose place a query comes most directly.
+def detour: . as $entry | [.walks[0] | label $there | .[]
+  | if . == $entry.parted[0] or {server, zone, cut, ns} == $entry.place then break $there else select(.to) end] | length;
+def witness: min_by([detour, .entry]);
+# The line on the query of an entry; one that is none has that line.
+def asked: .asked // "query: \(.query) \(.type), entry \(.entry)";
 
 # A step in words: who is asked for which name, and what comes of it.
 def words: {who: (.server // .ns), name, says: ({
@@ -83,11 +105,19 @@ def shortened: if length > 8 then .[:4] + [{who: "..", says: "\(length - 6) more
 
 # The wildcards that may answer for a name, the nearest first.
 def wildcards: upwards[1:] | map("*." + ltrimstr("."));
+# The lines of a list of groot-map, each as its columns.
+def rows: . // "" | split("\n")[] | select(. != "") | split("\t");
+# The runs of lines that were copied or written out into each file; and a place in the file from which it comes.
+def runs($given): [$given.lines | rows | {file: .[0], first: (.[1] | tonumber), last: (.[2] | tonumber), line: (.[3] | tonumber),
+    step: (.[4] | tonumber), from: .[5]}] | group_by(.file) | map({key: .[0].file, value: .}) | from_entries;
+def in_source($runs): .line as $line | (if .file then $runs[.file] else null end // [])
+  | first(.[] | select(.first <= $line and $line <= .last)) // null | if . then {file: .from, line: (.line + ($line - .first) * .step)} else null end;
+def traced($runs): . + (in_source($runs) // {});
 # Of the lines of a list of records, those of names in the report and of wildcards, as {file, line, data} under
 # "server\tzone\towner\ttype".
-def by_place($lines): (reduce (entries[] | .. | strings) as $text ({}; .[$text] = true)) as $texts
-  | [$lines // "" | split("\n")[] | split("\t") | select(.[2] | . and ($texts[.] or startswith("*.")))] | group_by(.[:4])
-  | map({key: (.[0][:4] | join("\t")), value: map({file: .[4], line: (.[5] | tonumber), data: .[6]})}) | from_entries;
+def by_place($given): runs($given) as $runs | (reduce (entries[] | .. | strings) as $text ({}; .[$text] = true)) as $texts
+  | [$given.records | rows | select($texts[.[2]] or (.[2] | startswith("*.")))] | group_by(.[:4])
+  | map({key: (.[0][:4] | join("\t")), value: map({file: .[4], line: (.[5] | tonumber), data: .[6]} | traced($runs))}) | from_entries;
 # The name of a file without the escapes of a list of records.
 def file_name: gsub("\\\\(?<octet>[0-9]{3}|.)"; .octet | {t: "\t", n: "\n"}[.] // if length == 3 then [tonumber] | implode else . end);
 # The records of a server's zone with one of the types, of the first owner that has any; else, aside, its SOA record.
@@ -100,13 +130,17 @@ def locations($records): . as $entry | .place
   | if $entry.kind == "glue-differs" then located($records; [.ns]; ["A", "AAAA"]; null)
     elif .ns then located($records; [.cut]; ["NS"]; .ns)
     elif .owner then located($records; [.owner]; ["CNAME", "DNAME"]; null)
-    else [$entry | parting[] | if .cut then located($records; [.cut]; ["NS"]; null)
+    else [$entry | parted[] | if .cut then located($records; [.cut]; ["NS"]; null)
       elif .to then located($records; [.owner]; ["CNAME", "DNAME"]; null)
       elif .rdata then located($records; [.name] + (.name | wildcards); [$entry.type]; null)
       else located($records; []; []; null) end | .[]] end;
 
 # Locations without those aside, if their server has another one.
 def nearest: . as $all | map(. as $one | select(.aside != true or all($all[]; .aside or [.server, .zone] != ($one | [.server, .zone]))));
+# The servers of locations, each with its files and lines. A server's zone is said if it isn't `$zone`.
+def sites($zone): group_by([.server, .zone]) | map({
+    at: (.[0] | .server + if .zone == $zone then "" else " zone \(.zone)" end),
+    lines: (map(select(.file) | [.file, .line]) | unique | map("\(.[0]):\(.[1])" | shown))});
 
 def is_of_address: .kind | IN("missing-glue", "cyclic-dependency", "no-address");
 # The least cut of the circle to which a name server leads: the nearest cut at or above its name, a server of that, and
@@ -114,10 +148,12 @@ def is_of_address: .kind | IN("missing-glue", "cyclic-dependency", "no-address")
 def circle($servers; $passed): [upwards[] | select($servers[.])][0] as $cut
   | if $cut == null then . else ($passed | index($cut)) as $first
     | if $first then $passed[$first:] | min else $servers[$cut] | circle($servers; $passed + [$cut]) end end;
-# What the entries of one cause share: the servers that differ, the dead target, the circle, the missing address.
+# What the entries of one cause share: the servers that differ, the dead target, the circle, the missing address. Aliases among
+# addresses, one for each address, share the name above them and that above their targets (RFC 2317).
 def cause($servers): . as $entry | .place
-  | if .name then [$entry.kind] + ([$entry | parting[] | [.server, .zone]] | sort)
-    elif $entry.kind == "blackhole" then [.zone, ($entry | rewrite | .did, if .did == "cname" then .to else .owner end)]
+  | if .name then [$entry.kind] + ([$entry | parted[] | [.server, .zone]] | sort)
+    elif $entry.kind == "blackhole" then .owner as $owner | [.zone] + ($entry | rewrite | [.did] + if .did == "dname" then [$owner]
+      elif $owner | is_reverse then [$owner, .to | parent] else [.to] end)
     elif $entry.kind == "rewrite-limit" then [.owner] as $place | [$entry.walks[0][] | .owner // empty] | group_by(.)
       | ["circle", ((map(select(length > 1)[0]) + $place)[0])]
     elif .owner then [$entry.kind, .zone, .owner]
@@ -125,40 +161,115 @@ def cause($servers): . as $entry | .place
     elif $entry.kind == "delegation-differs" then [$entry.kind, .zone, .cut]
     else [$entry.kind, .zone, .cut, .ns] end;
 
-# The headline of a cause; of two servers also which one is behind, if an entry shows both serial numbers (RFC 1982).
-def headline: if .[0].place.name == null then kinds[.[0].kind].what else
-    [.[] | select(.type == "SOA") | parting | select(all(.[]; .rdata)) | {pair: ., serials: map(.rdata[0] | split(" ")[2] | tonumber)}][0]
-    // {pair: (.[0] | parting), serials: [0, 0]}
-    | (.pair | if .[0].zone == .[1].zone then map(.server) else map("\(.server) (zone \(.zone))") end) as [$one, $other]
-    | .serials as [$ours, $theirs] | (($theirs - $ours + 4294967296) % 4294967296) as $ahead
-    | if $ahead == 0 or $ahead == 2147483648 then "\($one) and \($other) answer differently"
-      elif $ahead < 2147483648 then "\($one) is behind \($other): serial \($ours), not \($theirs)"
-      else "\($other) is behind \($one): serial \($theirs), not \($ours)" end end;
-# The places of a cause, each with its first entry, the types that differ there, and the servers with files and lines.
-# A server's zone is said if it isn't `$zone`. Servers that differ stand in the headline: here with files and lines alone.
-def places($records; $zone): group_by([.kind, subject]) | sort_by(.[0].entry)
-  | map(([.[] | locations($records)[]] | nearest) as $locations | (.[0] | {kind, subject: subject, first: ., locations: ($locations | distinct)}) + {
-      types: (if .[0].place.name then map(.type) | if length == 12 then ["all types"] else . end else [] end),
-      sites: ($locations | group_by([.server, .zone]) | map({
-        at: (.[0] | .server + if .zone == $zone then "" else " zone \(.zone)" end),
-        lines: (map(select(.file) | [.file, .line]) | unique | map("\(.[0]):\(.[1])" | shown))}))}
+# Of the entries of two servers that differ: which is behind the other one, with both serial numbers, if an entry shows them
+# (RFC 1982); else null.
+def lag: [.[] | select(.type == "SOA" and .parted) | .parted | select(all(.[]; .rdata))
+    | map({server, zone, serial: (.rdata[0] | split(" ")[2] | tonumber)})][0]
+  | if . == null then . else . as [$one, $other] | (($other.serial - $one.serial + 4294967296) % 4294967296) as $ahead
+    | if $ahead == 0 or $ahead == 2147483648 then null
+      elif $ahead < 2147483648 then {behind: $one, ahead: $other} else {behind: $other, ahead: $one} end end;
+def server_names: if .[0].zone == .[1].zone then map(.server) else map("\(.server) (zone \(.zone))") end;
+# Whether a cause has aliases of several addresses.
+def is_of_addresses: .[0].kind == "blackhole" and (.[0].place.owner | is_reverse) and (.[0] | rewrite.did) == "cname"
+  and (map(.place.owner) | unique | length) > 1;
+# The headline of a cause, and what mends it.
+def headline($lag): .[0] as $first
+  | if $lag then [$lag.behind, $lag.ahead] | "\(server_names | join(" is behind ")): serial \(.[0].serial), not \(.[1].serial)"
+    elif $first.place.name then "\($first.parted | server_names | join(" and ")) answer differently"
+    elif is_of_addresses then "\(map(.place.owner) | unique | length) aliases of addresses below \($first.place.owner | parent) lead to names that don't exist"
+    else kinds[$first.kind].what end;
+def mend($lag): .[0].parted as $parted | if $lag then "let \($lag.behind.server) transfer the newer zone, or publish one file on both"
+  elif $parted and $parted[0].zone != $parted[1].zone then "give both servers the same zones, with the same delegations"
+  elif is_of_addresses then "add a PTR record for each address that has a name; the others need none"
+  else kinds[.[0].kind].mend end;
+
+# The data of records of a server's zone.
+def data_at($records; $server; $zone; $owner; $types):
+  [$types[] as $type | $records[[$server, $zone, $owner, $type] | join("\t")] // [] | .[].data] | unique;
+# Of an entry whose records differ between two zones: the data in the zone above, and those in the zone itself, as far as records
+# are known.
+def both_sets($records): .place as $place | ["A", "AAAA"] as $addresses
+  | def above($owner; $types): data_at($records; $place.server; $place.zone; $owner; $types);
+  if .kind == "delegation-differs" then [above($place.cut; ["NS"]), data_at($records; $place.ns; $place.cut; $place.cut; ["NS"])]
+  elif .kind == "glue-differs" then [above($place.ns; $addresses), (first(($place.ns | upwards[] | select(. != $place.zone)) as $zone
+      | [$place.ns, above($place.cut; ["NS"])[]][] as $server | data_at($records; $server; $zone; $place.ns; $addresses) | select(. != [])) // [])]
+  else [[]] end;
+# The name to which the query of an entry is led before two servers differ; null if it is the query's own.
+def led_to: if .parted and .parted[0].name == .parted[1].name and .parted[0].name != .query then .parted[0].name else null end;
+
+# The places of a cause, each with its witness, the types that differ there, the names that lead there, and the servers with
+# files and lines. Servers that differ stand in the headline: here with files and lines alone.
+def places($records; $zone): group_by([.kind, led_to // subject]) | sort_by(.[0].entry)
+  | map(([.[] | locations($records)[]] | nearest) as $locations | (map(select(led_to == null)) | if . == [] then null else . end) as $own
+    | {kind: .[0].kind, subject: (if $own then $own[0] | subject else .[0] | led_to end), level: (.[0] | level), zone: .[0].zone,
+       mark: (.[0] | del(.entry, .parted, .zone, .server) | key), first: witness, locations: ($locations | distinct),
+       types: (if .[0].place.name then $own // . | map(.type) | distinct | if length == 12 then ["all types"] else . end else [] end),
+       leading: (map(select(led_to) | subject) | distinct), sets: (.[0] | both_sets($records)), sites: ($locations | sites($zone))}
     | if .types != [] and all(.sites[]; .lines == []) then .sites = [] else . end);
-# What stands behind a place's subject: its types and its servers.
+# What stands behind a place's subject: its types, its servers, the names that lead there, and what differs between two zones.
 def details: if .types == [] then "" else ": \(.types | join(" "))" end + if .sites == [] then "" else ", on " +
-  (.sites | map(.at + if .lines == [] then "" else " (\(.lines | join(", ")))" end) | join(", ")) end;
-# The causes of a report by zone and server, each with the query and the walks of its first entry. `$lines` are those of a
-# list of records, or null.
-def causes($lines): entries as $entries | by_place($lines) as $records
+  (.sites | map(.at + if .lines == [] then "" else " (\(.lines | join(", ")))" end) | join(", ")) end
+  + (.leading // [] | if . == [] then "" else "; also \(.[:20] | join(", "))\(length - 20 | if . > 0 then " and \(.) more" else "" end), which lead there" end)
+  + (.sets // [[]] | if any(. == []) then "" else "; above \(.[0] | join(" ")), in the zone itself \(.[1] | join(" "))" end);
+# What is listed below the headline of a cause: its places in words.
+def listing: .kinds as $kinds | .places | map({subject, details: details, kind: (if $kinds[1] then .kind else null end)});
+# The causes of the entries, each with the query and the walks of its witness.
+def fault_causes($given): [entries[] | weighed] as $entries | by_place($given) as $records
   | ($entries | map(select(is_of_address) | .place | {key: .cut, value: .ns}) | reverse | from_entries) as $servers
-  | $entries | group_by(cause($servers)) | sort_by((.[0] | zone | name_order), (.[0] | .place.server // parting[0].server), .[0].entry)
-  | map((.[0] | {zone: zone, level: level, query: "\(.query) \(.type)", entry, walks: told})
-    + {kinds: (by_kind | map(.[0].kind)), headline: headline, faults: length, places: places($records; .[0] | zone)}
-    | .mend = kinds[.kinds[0]].mend);
+  | $entries | group_by(cause($servers)) | map(sort_by(.entry) | lag as $lag | witness as $witness
+    | (.[0] | {zone, server, entry, level: level, zones: [.zone]}) + ($witness | {asked: asked, walks: told})
+    + {kinds: (by_kind | map(.[0].kind)), headline: headline($lag), mend: mend($lag), lag: $lag, faults: length, places: places($records; .[0].zone)}
+    | .listed = listing);
+
+# Causes of more than three zones that one server is behind another one: one cause.
+def one_lag: if length < 4 or .[0].lag == null then .[] else sort_by(.entry) | length as $length | .[0] + {
+    zones: map(.zone), headline: "in \($length) zones: \(.[0].lag.behind.server) is behind \(.[0].lag.ahead.server)",
+    faults: (map(.faults) | add), places: map(.places[]),
+    listed: map(.zone as $zone | {kind: null, subject: $zone, details: ": serial \(.lag.behind.serial), not \(.lag.ahead.serial)\(
+      [.places[] | select(.subject != $zone) | "\(.subject) (\(.types | join(" ")))"] | if . == [] then "" else "; besides \(.[:20] | join(", "))\(
+        length - 20 | if . > 0 then " and \(.) more names" else "" end)" end)"})} end;
+
+# The causes that a list of targets without an address shows: a cause for each target.
+def target_causes($given): runs($given) as $runs | [$given.targets | rows | {server: .[0], zone: .[1], owner: .[2], type: .[3], file: .[4], line: (.[5] | tonumber),
+    target: .[7], asked: "queries: \(.[7]) A and AAAA, which end in \(.[8:10] | unique | join(" and "))"} | traced($runs)]
+  | group_by(.target)[] | .[0] as $first | "target-without-address" as $kind
+  | ($first | {zone, server, asked}) + {zones: map(.zone), kinds: [$kind], level: kinds[$kind].level, headline: kinds[$kind].what,
+      mend: kinds[$kind].mend, walks: [], faults: length, places: (group_by([.owner, .type]) | map(.[0] as $one | {
+        kind: $kind, subject: ($one | "\(.owner) \(.type) to \(.target)"), level: kinds[$kind].level, zone: $one.zone, first: {asked: $one.asked, walks: []},
+        mark: ([$kind, ($one | .zone, .owner, .type, .target)] | tojson), locations: (map({server, zone, file, line}) | distinct),
+        types: [], sites: sites($one.zone)}))}
+  | .listed = listing;
+# The causes that a list of rows shows: a cause for each server with rows that no query reaches.
+def row_causes($given): runs($given) as $runs | [$given.reached | rows] | group_by(.[2])[] | length as $rows | map(select(.[0] == "unreached")
+    | {row: .[1], server: .[2], zone: .[3], file: .[4], line: 1} | traced($runs)) | select(. != []) | .[0] as $first | "unreached-row" as $kind
+  | ($first | {zone, server}) + {kinds: [$kind], level: kinds[$kind].level, zones: map(.zone), mend: kinds[$kind].mend, walks: [],
+      headline: (if length == $rows and $rows > 1 then "no query reaches any of the \($rows) rows of \($first.server)" else kinds[$kind].what end),
+      asked: "queries: the SOA record of each zone", faults: length, places: map({
+        kind: $kind, subject: "row \(.row), zone \(.zone)", level: kinds[$kind].level, zone, first: {asked: "query: \(.zone) SOA", walks: []},
+        mark: ([$kind, .server, .zone] | tojson), locations: [{server, zone, file, line}], types: [],
+        sites: ([{server, zone, file, line}] | sites(.[0].zone))})}
+  | .listed = listing;
+
+# All causes by zone and server; those of several zones come first.
+def causes($given): [(fault_causes($given) | group_by(.lag | if . then [.behind.server, .ahead.server] else . end)[] | one_lag),
+    target_causes($given), row_causes($given)]
+  | map(.section = (.zones | unique | if length > 1 then "\(length) zones" else "zone \(.[0])" end)
+    | .order = (.zones | unique | if length > 1 then [-length] else [0, (.[0] | name_order)] end))
+  | sort_by(.order, .server, .entry // infinite);
+# The causes of one section and then of the next.
+def sections: group_by([.order, .section]);
 
 # How many entries there are of each kind and zone: kinds in the report's order, zones in that of their names.
 def counts: entries | by_kind | map(group_by(zone | name_order)[] | {kind: .[0].kind, zone: (.[0] | zone), number: length});
-# A report in one line.
-def summary($causes): "\(.names | counted("name")), \(.classes) classes, at most \(.rewrites | counted("rewrite"))" as $size
-  | if .faults == [] then "no fault (\($size))"
-    else "\(.faults | length | counted("fault")) from \($causes | length | counted("cause")): "
-      + (entries | by_kind | map("\(length) \(.[0].kind)") | join(", ")) + " (\($size))" end;
+# A report in one line. One of new faults alone has the numbers of those that are known, and of those that are gone.
+def summary($causes): . as $report
+  | ["\(.names | counted("name")), \(.classes) classes, at most \(.rewrites | counted("rewrite"))"] as $size
+  | [if .faults == [] then (if (.known // 0) > 0 then "no new fault" else "no fault" end)
+     else ($causes | map(select(.entry)) | length | counted("cause")) as $number
+       | "\(.faults | length | if $report.known then counted("new fault") else counted("fault") end) from \($number): "
+       + (entries | by_kind | map("\(length) \(.[0].kind)") | join(", ")) end,
+     (.known // 0 | select(. > 0) | "\(.) known"), (.gone // 0 | select(. > 0) | "known and gone: \(.)"),
+     (["target-without-address", "target without an address", "targets without an address"],
+      ["unreached-row", "row that no query reaches", "rows that no query reaches"]
+      | . as [$kind, $one, $several] | [$causes[] | select(.kinds == [$kind]) | .faults] | add // 0 | select(. > 0) | counted($one; $several))]
+  | "\(join("; ")) (\($size[0]))";

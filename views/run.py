@@ -2,13 +2,15 @@
 """Runs the views on their cases: run.py [CASE ..]
 
 A case is a folder of cases/: report.json, what each view must make of it (VIEW.out, or VIEW-NAME.out with the words of
-VIEW-NAME.args), records.tsv if the views get records, and old.json for new.jq. A file `example` has the name of an example,
-whose report is taken; then records.tsv has what `groot-map records` prints of its metadata, which is compared if that program
-is there. Of html.jq the body is compared, and of sarif.jq the results. Besides, what each view makes of each case is read back: HTML, XML and SARIF must hold what the
-report says, and DOT is drawn if `dot` is there, and pages are loaded if `chromium` is there. It ends with status 1 if
-a case is wrong, and with 2 if there is no jq.
+VIEW-NAME.args), records.tsv, targets.tsv, reached.tsv and lines.tsv if the views get these lists, and old.json for new.jq. A
+file `example` has the name of an example, whose report is taken; then records.tsv has what `groot-map records` prints of its
+metadata, which is compared if that program is there. Of html.jq the body is compared, and of sarif.jq the results. Besides,
+what each view makes of each case is read back: HTML, XML and SARIF must hold what the report says, all.jq must make the same,
+and DOT is drawn if `dot` is there, and pages are loaded if `chromium` is there. It ends with status 1 if a case is wrong, and
+with 2 if there is no jq.
 """
 import difflib
+import functools
 import html.parser
 import json
 import os
@@ -18,53 +20,60 @@ import subprocess
 import sys
 import tempfile
 import xml.etree.ElementTree
+from typing import Any, Callable, Dict, Iterator, List, Optional, Sequence, Set, Tuple
 
 HERE = os.path.dirname(os.path.abspath(__file__))
 TOP = os.path.dirname(HERE)
+Json = Dict[str, Any]
+
 CASES = os.path.join(HERE, "cases")
 KINDS = ["answers-differ", "blackhole", "cyclic-dependency", "delegation-differs", "glue-differs", "lame-delegation", "missing-glue",
-         "no-address", "overlong", "rewrite-limit"]
-READ_BACK = ["html", "junit", "sarif", "dot"]
+         "no-address", "overlong", "rewrite-limit", "target-without-address", "unreached-row"]
+ALL = ["text", "html", "sarif", "junit"]
+LISTS = ["records", "targets", "reached", "lines"]
+OBEYED = re.compile("[\x00-\x1f\x7f-\x9f\u061c\u200b-\u200f\u2028-\u202e\u2060-\u2069\ufeff\ufffe\uffff]")
 DOT_TEXT = r'"(?:[^"\\]|\\.)*"'
 DOT_LINE = re.compile(rf"digraph groot {{|  rankdir=LR;|  {DOT_TEXT}( -> {DOT_TEXT})? \[label={DOT_TEXT}(, [a-z]+=[a-z]+)*\];|}}")
 
 
-def contents(*path):
+def contents(*path: str) -> str:
     with open(os.path.join(*path), encoding="utf-8", newline="") as file:
         return file.read()
 
 
-def report_of(folder):
+def report_of(folder: str) -> str:
     """The path of the report of a case."""
     example = example_of(folder)
     return os.path.join(TOP, "examples", example, "report.json") if example else os.path.join(folder, "report.json")
 
 
-def example_of(folder):
+def example_of(folder: str) -> Optional[str]:
     """The example that a case is of, or None."""
     path = os.path.join(folder, "example")
     return contents(path).strip() if os.path.exists(path) else None
 
 
-def view(name, folder, words=()):
+@functools.lru_cache(maxsize=None)
+def view(name: str, folder: str, more: Tuple[str, ...] = ()) -> Tuple[int, str, str]:
     """Status, output and error of a view over the report of a case."""
-    words = [*words]
-    if os.path.exists(os.path.join(folder, "records.tsv")):
-        words += ["--rawfile", "records", "records.tsv"]
+    words = list(more)
+    for given in LISTS:
+        if os.path.exists(os.path.join(folder, f"{given}.tsv")):
+            words += ["--rawfile", given, f"{given}.tsv"]
     if name == "new" and os.path.exists(os.path.join(folder, "old.json")):
         words += ["--slurpfile", "old", "old.json"]
-    ended = subprocess.run(["jq", "-cf" if name == "new" else "-rf", os.path.join(HERE, f"{name}.jq"), *words, report_of(folder)],
+    ended = subprocess.run(["jq", "-cf" if name in ("new", "all") else "-rf", os.path.join(HERE, f"{name}.jq"), *words, report_of(folder)],
                            cwd=folder, stdin=subprocess.DEVNULL, capture_output=True)
     return ended.returncode, ended.stdout.decode(), ended.stderr.decode()
 
 
-def differences(right, own):
+def differences(right: str, own: str) -> List[str]:
     """A line for each way in which two texts differ."""
-    right, own = (text.splitlines(keepends=True) for text in (right, own))
-    return [line.rstrip("\n")[:2000] for line in difflib.unified_diff(right, own, "expected", "view", n=1)]
+    lines = difflib.unified_diff(right.splitlines(keepends=True), own.splitlines(keepends=True), "expected", "view", n=1)
+    return [line.rstrip("\n")[:2000] for line in lines]
 
 
-def compared(name, text):
+def compared(name: str, text: str) -> str:
     """What is compared of the text that a view makes: the body of a page, the results of SARIF, else all."""
     if name == "html":
         return text[text.index("<body>"):]
@@ -73,55 +82,70 @@ def compared(name, text):
     return text
 
 
-def expected(name, text):
+def expected(name: str, text: str) -> str:
     return json.dumps(json.loads(text), indent=2, sort_keys=True) + "\n" if name == "sarif" else text
 
 
 class Page(html.parser.HTMLParser):
     """The tags of a page, its ids, the places to which it leads, and its text in one line."""
 
-    def __init__(self, text):
+    def __init__(self, text: str) -> None:
         super().__init__()
-        self.tags, self.ids, self.links, self.words = [], [], [], []
-        self.open = []
+        self.tags: List[str] = []
+        self.ids: List[str] = []
+        self.links: List[str] = []
+        self.words: List[str] = []
+        self.open: List[str] = []
+        self.is_glued = False
         self.feed(text)
         self.close()
         self.text = " ".join(" ".join(self.words).split())
 
-    def handle_starttag(self, tag, attributes):
+    def handle_starttag(self, tag: str, attributes: List[Tuple[str, Optional[str]]]) -> None:
         self.tags.append(tag)
-        if tag not in ("meta",):
+        self.is_glued = tag == "wbr"
+        if tag not in ("meta", "wbr"):
             self.open.append(tag)
         for name, value in attributes:
             if name == "id":
-                self.ids.append(value)
+                self.ids.append(value or "")
             elif name in ("href", "src"):
-                self.links.append(value)
+                self.links.append(value or "")
             elif name not in ("class", "lang", "charset", "name", "content"):
                 raise ValueError(f"attribute {name}")
 
-    def handle_endtag(self, tag):
+    def handle_endtag(self, tag: str) -> None:
+        self.is_glued = False
         if not self.open or self.open.pop() != tag:
             raise ValueError(f"{tag} is closed where it isn't open")
 
-    def handle_data(self, text):
+    def handle_data(self, text: str) -> None:
         if self.open and self.open[-1] != "style":
-            self.words.append(text)
+            if self.is_glued:
+                self.words[-1] += text
+            else:
+                self.words.append(text)
+        self.is_glued = False
 
 
-def names_of(report):
+def shown(text: str) -> str:
+    """A text as the views show it."""
+    return OBEYED.sub("\ufffd", text)
+
+
+def names_of(report: Json) -> Iterator[str]:
     """The names that each view must show: of each place those that say where it is, but for its server."""
     for fault in report["faults"]:
         place = fault["place"]
-        yield from (place[member] for member in ("owner", "cut", "ns", "name") if member in place)
+        yield from (shown(place[member]) for member in ("owner", "cut", "ns", "name") if member in place)
 
 
-def faults_of_html(text, report):
+def faults_of_html(text: str, report: Json) -> Iterator[str]:
     page = Page(text)
     if page.open:
         yield f"{page.open} aren't closed"
     if set(page.tags) - {"html", "head", "meta", "title", "style", "body", "h1", "h2", "h3", "p", "table", "tr", "th", "td", "a", "section",
-                         "article", "ul", "ol", "li", "b", "code"}:
+                         "article", "ul", "ol", "li", "b", "code", "wbr"}:
         yield f"tags {sorted(set(page.tags))}"
     if len(set(page.ids)) != len(page.ids):
         yield "an id stands twice"
@@ -131,22 +155,22 @@ def faults_of_html(text, report):
     yield from (f"{name} isn't shown" for name in names_of(report) if name not in page.text)
 
 
-def faults_of_junit(text, report):
+def faults_of_junit(text: str, report: Json) -> Iterator[str]:
     suites = xml.etree.ElementTree.fromstring(text.encode())
     failures = suites.findall("./testsuite/testcase/failure")
-    if suites.find("./testsuite").get("failures") != str(len(failures)) or bool(failures) != bool(report["faults"]):
+    if suites.findall("./testsuite")[0].get("failures") != str(len(failures)) or bool(failures) != bool(report["kinds"]):
         yield "the number of failures"
     if len({(test.get("classname"), test.get("name")) for test in suites.iter("testcase")}) != max(len(failures), 1):
         yield "two tests have one name"
-    shown = "\n".join(failure.text for failure in failures)
-    yield from (f"{name} isn't shown" for name in names_of(report) if name not in shown)
+    told = "\n".join(failure.text or "" for failure in failures)
+    yield from (f"{name} isn't shown" for name in names_of(report) if name not in told)
 
 
-def faults_of_value(value, schema, whole, path="$"):
+def faults_of_value(value: Any, schema: Json, whole: Json, path: str = "$") -> Iterator[str]:
     """The ways in which a value isn't what a schema says, as far as the schema of SARIF goes here."""
     if "$ref" in schema:
         schema = whole["definitions"][schema["$ref"].rpartition("/")[2]]
-    is_type = {"object": dict, "array": list, "string": str, "integer": int}.get(schema.get("type"), object)
+    is_type = {"object": dict, "array": list, "string": str, "integer": int}.get(schema.get("type", ""), object)
     if not isinstance(value, is_type) or value not in schema.get("enum", [value]):
         yield f"{path} is {value!r}"
         return
@@ -167,7 +191,7 @@ def faults_of_value(value, schema, whole, path="$"):
             yield from faults_of_value(item, schema["items"], whole, f"{path}[{at}]")
 
 
-def faults_of_sarif(text, report):
+def faults_of_sarif(text: str, report: Json) -> Iterator[str]:
     log = json.loads(text)
     schema = json.loads(contents(HERE, "sarif-2.1.0.part.json"))
     yield from faults_of_value(log, schema, schema)
@@ -179,30 +203,30 @@ def faults_of_sarif(text, report):
         yield "a result has no line, and another has one"  # GitHub refuses a log with such a result
     if any(rules[result["ruleIndex"]]["id"] != result["ruleId"] for result in results):
         yield "the number of a rule"
-    if {result["ruleId"] for result in results} != {fault["kind"] for fault in report["faults"]}:
+    if {result["ruleId"] for result in results} != report["kinds"]:
         yield "a kind isn't shown"
     marks = [result["partialFingerprints"]["fault/v1"] for result in results]
     if len(set(marks)) != len(marks):
         yield "two results have one fingerprint"
-    shown = "\n".join(result["message"]["text"] for result in results)
-    yield from (f"{name} isn't shown" for name in names_of(report) if name not in shown)
+    told = "\n".join(result["message"]["text"] for result in results)
+    yield from (f"{name} isn't shown" for name in names_of(report) if name not in told)
 
 
-def faults_of_dot(text, report):
-    yield from (f"no statement: {line}" for line in text.splitlines() if not DOT_LINE.fullmatch(line))
+def faults_of_dot(text: str, report: Json) -> Iterator[str]:
+    yield from (f"no statement: {line}" for line in text.removesuffix("\n").split("\n") if not DOT_LINE.fullmatch(line))
     if shutil.which("dot"):
         drawn = subprocess.run(["dot", "-Tsvg"], input=text.encode(), capture_output=True)
         if drawn.returncode or drawn.stderr:
             yield drawn.stderr.decode()
             return
-        shown = [element.text for element in xml.etree.ElementTree.fromstring(drawn.stdout).iter() if element.tag.endswith("text")]
+        texts = [element.text or "" for element in xml.etree.ElementTree.fromstring(drawn.stdout).iter() if element.tag.endswith("text")]
         servers = {step.get("server") or step["ns"] for fault in report["faults"] for walk in fault["walks"] for step in walk}
-        queries = {fault["query"] for fault in report["faults"]}
-        yield from (f"{name} isn't drawn" for name in servers if name not in shown)
-        yield from (f"{name} isn't asked" for name in queries if not any(text.startswith(name + " ") for text in shown))
+        queries = {shown(fault["query"]) for fault in report["faults"]}
+        yield from (f"{name} isn't drawn" for name in servers if name not in texts)
+        yield from (f"{name} isn't asked" for name in queries if not any(text.startswith(name + " ") for text in texts))
 
 
-def faults_of_loaded_page(text):
+def faults_of_loaded_page(text: str) -> Iterator[str]:
     """A page as a browser reads it has the text that the parser reads, and no script."""
     with tempfile.TemporaryDirectory() as folder:
         path = os.path.join(folder, "page.html")
@@ -215,7 +239,7 @@ def faults_of_loaded_page(text):
         yield "the browser reads another page"
 
 
-def faults_of_records(text, example):
+def faults_of_records(text: str, example: str) -> Iterator[str]:
     """A list of records has lines of the files of an example on which a record of their type stands; and it is what groot-map
     prints, if that is there."""
     for record in text.splitlines():
@@ -229,43 +253,74 @@ def faults_of_records(text, example):
         yield from (f"records.tsv: {line}" for line in differences(printed, text))
 
 
-def ways_it_is_wrong(case):
+READ_BACK: Dict[str, Callable[[str, Json], Iterator[str]]] = {
+    "html": faults_of_html, "junit": faults_of_junit, "sarif": faults_of_sarif, "dot": faults_of_dot}
+
+
+def kinds_of(report: Json, folder: str) -> Set[str]:
+    """The kinds that the views must show of a case: those of its faults, and of what the lists of groot-map say."""
+    lists = {given: contents(folder, f"{given}.tsv") for given in LISTS if os.path.exists(os.path.join(folder, f"{given}.tsv"))}
+    return ({fault["kind"] for fault in report["faults"]}
+            | ({"target-without-address"} if lists.get("targets") else set())
+            | ({"unreached-row"} if "unreached\t" in lists.get("reached", "") else set()))
+
+
+def faults_of_all(folder: str) -> Iterator[str]:
+    """all.jq makes what each view alone makes."""
+    status, text, error = view("all", folder)
+    if status:
+        yield f"all: status {status}: {error}"
+        return
+    made = dict(json.loads(line) for line in text.removesuffix("\n").split("\n"))
+    if list(made) != ALL:
+        yield f"all: it makes {list(made)}"
+    for name in made:
+        alone = view(name, folder)[1]
+        if made[name] != alone and (name != "sarif" or json.loads(made[name]) != json.loads(alone)):
+            yield f"all: it makes another {name}"
+
+
+def ways_it_is_wrong(case: str) -> Iterator[str]:
     """A line for each way in which a view goes another way on a case than the case says."""
     folder = os.path.join(CASES, case)
     report = json.loads(contents(report_of(folder)))
+    report["kinds"] = kinds_of(report, folder)
+    yield from faults_of_all(folder)
     outs = [file[:-4] for file in sorted(os.listdir(folder)) if file.endswith(".out")]
     if not outs:
         yield "it says nothing of what it expects"
-    if example_of(folder):
-        yield from faults_of_records(contents(folder, "records.tsv"), example_of(folder))
+    example = example_of(folder)
+    if example:
+        yield from faults_of_records(contents(folder, "records.tsv"), example)
     for out in outs:
         name = out.partition("-")[0]
         words = contents(folder, out + ".args").splitlines() if os.path.exists(os.path.join(folder, out + ".args")) else []
-        status, text, error = view(name, folder, words)
+        status, text, error = view(name, folder, tuple(words))
         if status:
             yield f"{out}: status {status}: {error}"
         else:
             yield from (f"{out}: {line}" for line in differences(expected(name, contents(folder, out + ".out")), compared(name, text)))
-    for name in READ_BACK:
+    for name, read_back in READ_BACK.items():
         status, text, error = view(name, folder)
         if status:
             yield f"{name}: status {status}: {error}"
             continue
         try:
-            yield from (f"{name}: {line}" for line in globals()[f"faults_of_{name}"](text, report))
+            yield from (f"{name}: {line}" for line in read_back(text, report))
             if name == "html" and "html" in outs and shutil.which("chromium"):
                 yield from (f"html: {line}" for line in faults_of_loaded_page(text))
         except (ValueError, xml.etree.ElementTree.ParseError, subprocess.TimeoutExpired) as fault:
             yield f"{name}: {fault}"
 
 
-def refusals():
+def refusals() -> Iterator[str]:
     """Each view refuses what is no report, and new.jq does without an older one."""
     with tempfile.TemporaryDirectory() as folder:
         for text in ('{"faults":1}', "[]"):
             with open(os.path.join(folder, "report.json"), "w", encoding="utf-8") as file:
                 file.write(text)
-            for name in ("text", "html", "dot", "sarif", "junit", "counts"):
+            for name in ("text", "html", "dot", "sarif", "junit", "counts", "all"):
+                view.cache_clear()
                 status, out, error = view(name, folder)
                 if status == 0 or out or "this is no report of groot check" not in error:
                     yield f"{name}: status {status} for {text}"
@@ -274,14 +329,14 @@ def refusals():
             yield f"new: status {status} without an older report"
 
 
-def main(words):
+def main(words: Sequence[str]) -> int:
     if not shutil.which("jq"):
         print('views/run.py: needs jq on the path (README.md, "Install")', file=sys.stderr)
         return 2
     cases = [case for case in sorted(os.listdir(CASES)) if not words or case in words]
     wrong = 0
-    for case, lines in [*((case, ways_it_is_wrong(case)) for case in cases), ("refusals", refusals())]:
-        lines = list(lines)
+    for case, ways in [*((case, ways_it_is_wrong(case)) for case in cases), ("refusals", refusals())]:
+        lines = list(ways)
         if lines:
             wrong += 1
             print(f"WRONG {case}")

@@ -1,1 +1,1 @@
-"""The zones that name servers hold, as BIND, NSD and Knot themselves print their configuration."""
+"""The zones that name servers hold, as their own tools print them, and the plain text that groot reads."""

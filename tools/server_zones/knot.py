@@ -2,67 +2,117 @@
 import os
 import re
 import shlex
+from typing import Dict, List, Match
 
-from .held import Zone, rooted, unprinted
+from . import catalogs
+from .held import Findings, NoMetadata, Printer, Server, Zone, rooted, unprinted
 from .names import canonical, labels_of
 
 USUAL_STORAGE = "/var/lib/knot"
 USUAL_FILE = "%s.zone"
+REMEDY = "knotc can't read it from the server, which must run here; or take the zone by a transfer (axfr:), or use --published"
 PRINTED = re.compile(r'(?:#.*|[\w-]+:|  (?:- |  )[\w-]+: (?:".*"|\[ ".*" \]))?')
 FORMATTER = re.compile(r"%(?:%|s|c\[(?P<first>\d+)(?:-(?P<last>\d+))?\]|l\[(?P<label>\d+)\])")
 
+Settings = Dict[str, List[str]]
 
-def command(path):
+
+def command(path: str) -> List[str]:
     """The command that prints the configuration; a folder is a configuration database."""
-    return ["knotc", "-C" if os.path.isdir(path) else "-c", path, "conf-export"]
+    return [*control(path), "conf-export"]
 
 
-def zones(server, text, _views, findings):
-    """The zones of the configuration, each with what its template gives it."""
+def control(path: str) -> List[str]:
+    """The command that speaks with the server of a configuration."""
+    return ["knotc", "-C" if os.path.isdir(path) else "-c", path]
+
+
+def zones(server: Server, text: str, _views: List[str], findings: Findings) -> List[Zone]:
+    """The zones of the configuration, each with what its template gives it, and the members of catalogs in the place of these."""
     for line in text.splitlines():
         if not PRINTED.fullmatch(line):
             raise unprinted(server, command("FILE"), line.strip())
     sections = sections_of(text)
-    templates = {item["id"][0]: item for item in sections.get("template", [])}
-    updaters = {item["id"][0] for item in sections.get("acl", []) if "update" in item.get("action", [])}
+    templates = {word_of(item, "id", ""): item for item in sections.get("template", [])}
+    updaters = {word_of(item, "id", "") for item in sections.get("acl", []) if "update" in item.get("action", [])}
+    configured = []
     for item in sections.get("zone", []):
-        template = item.get("template", ["default"])[0]
-        settings = {**templates.get(template, {}), **item}
-        if updaters.intersection(settings.get("acl", [])):
-            findings.remark(server, f"{item['domain'][0]} takes updates; first run {flush(item['domain'][0])}")
-        for module in settings.get("module", []):
-            findings.remark(server, f"{item['domain'][0]}: what {module} answers stands in no file")
-        yield zone_of(server, settings)
+        if "domain" not in item:
+            raise NoMetadata(f"{server.name}: {server.path}: not as knotc conf-export prints it: a zone without a domain")
+        configured.append({**templates.get(word_of(item, "template", "default"), {}), **item})
+    held = [zone_of(server, settings, updaters, findings) for settings in configured]
+    known = {zone.name for zone in held}
+    found = []
+    for zone, settings in zip(held, configured):
+        role = word_of(settings, "catalog-role", "none")
+        if role == "interpret":
+            members = catalogs.taken(server, zone, known, findings)
+            found += [zone_of(server, member_of(member, settings, templates), updaters, findings) for member in members]
+        elif role == "generate":
+            findings.remark(server, f"{zone.name}: passed over, a catalog zone that Knot makes; its members have rows")
+        else:
+            found.append(zone)
+    return found
 
 
-def zone_of(server, settings):
+def member_of(member: catalogs.Member, catalog: Settings, templates: Dict[str, Settings]) -> Settings:
+    """The settings of a member of a catalog: those of the template for its group, or of the first one."""
+    names = catalog.get("catalog-template", ["default"])
+    return {**templates.get(member.group if member.group in names else names[0], {}), "domain": [member.name]}
+
+
+def zone_of(server: Server, settings: Settings, updaters: "set[str]", findings: Findings) -> Zone:
     """A zone, from its settings and those of its template."""
-    name = settings["domain"][0]
-    pattern, storage = settings.get("file", [USUAL_FILE])[0], settings.get("storage", [USUAL_STORAGE])[0]
+    name = word_of(settings, "domain", "")
+    pattern, storage = word_of(settings, "file", USUAL_FILE), word_of(settings, "storage", USUAL_STORAGE)
     file = file_of(pattern, canonical(name))
     path = rooted(server, storage, file) if file else None
     role = "secondary" if "master" in settings else "primary"
-    unplaced = ""
-    if settings.get("catalog-role") == ["interpret"]:
-        unplaced = "a catalog zone, whose members no configuration lists"
-    elif settings.get("catalog-role") == ["generate"]:
-        unplaced = "a catalog zone, which Knot makes and keeps in no file"
-    elif not path:
-        unplaced = f"{pattern} in the storage {storage} is no absolute path"
-    elif settings.get("zonefile-sync") == ["-1"] and (role == "secondary" or settings.get("zonefile-load") == ["none"]):
-        unplaced = f"Knot doesn't write its file (zonefile-sync -1); {flush(name)} +outdir FOLDER writes one"
-    return Zone(server, canonical(name), role, path, refresh=flush(name), unplaced=unplaced)
+    for module in settings.get("module", []):
+        findings.remark(server, f"{name}: what {module} answers stands in no file")
+    zone = Zone(server, canonical(name), role, path, refresh=flush(name),
+                unplaced="" if path else f"{pattern} in the storage {storage} is no absolute path")
+    why = why_not_written(settings, role, bool(updaters.intersection(settings.get("acl", []))))
+    if not why:
+        if updaters.intersection(settings.get("acl", [])):
+            findings.remark(server, f"{name} takes updates; first run {flush(name)}")
+        elif word_of(settings, "zonefile-sync", "0") not in ("-1", "0"):
+            findings.remark(server, f"{name}: its file is written some time after a change (zonefile-sync); first run {flush(name)}")
+        return zone
+    live = zone._replace(unplaced="", printer=Printer([*control(server.path), "zone-read", name], "zone-read", REMEDY), why=why)
+    if server.elsewhere or server.root:
+        live = zone._replace(unplaced=f"{why}; take it by a transfer (axfr:), or use --published, or run "
+                                      f"{flush(name)} +outdir FOLDER")
+    return zone._replace(live=live)
 
 
-def flush(name):
+def why_not_written(settings: Settings, role: str, updated: bool) -> str:
+    """Why the server's answers stand in no file; "" where it writes them into the zone's file."""
+    if word_of(settings, "zonefile-sync", "0") != "-1":
+        return ""
+    sign = word_of(settings, "dnssec-signing", "off") == "on"
+    loads = word_of(settings, "zonefile-load", "whole")
+    reasons = [("it is a secondary", role == "secondary"), ("the server signs it", sign), ("it takes updates", updated),
+               ("zonefile-load is none", loads == "none"), ("the server counts its serial", loads == "difference-no-serial")]
+    reason = next((text for text, holds in reasons if holds), "")
+    return f"{reason}, and Knot doesn't write its file (zonefile-sync -1)" if reason else ""
+
+
+def flush(name: str) -> str:
     """The line that has Knot write the file of a zone."""
-    return shlex.join(["knotc", "zone-flush", name])
+    return f"knotc zone-flush {shlex.quote(name)}"
 
 
-def sections_of(text):
+def word_of(settings: Settings, key: str, usual: str) -> str:
+    """The first value of a setting, or the usual one."""
+    return next(iter(settings.get(key, [])), usual)
+
+
+def sections_of(text: str) -> Dict[str, List[Settings]]:
     """The items of each section. An item is its settings, and a setting a list of values, within whose quotes Knot escapes
     nothing."""
-    sections, items = {}, []
+    sections: Dict[str, List[Settings]] = {}
+    items: List[Settings] = []
     for line in text.splitlines():
         if not line.strip() or line.startswith("#"):
             continue
@@ -77,13 +127,13 @@ def sections_of(text):
     return sections
 
 
-def file_of(pattern, name):
+def file_of(pattern: str, name: str) -> str:
     """The file of a zone, with the parts of its name put into the pattern (knot.conf, zone section, `file`); "" where the
     pattern has a formatter that isn't known here."""
     text = name.replace("/", "_")
     labels = labels_of(text)[::-1]
 
-    def part(found):
+    def part(found: Match[str]) -> str:
         if found["first"]:
             return text[int(found["first"]):int(found["last"] or found["first"]) + 1]
         if found["label"]:

@@ -1,0 +1,214 @@
+#!/usr/bin/env bash
+# Tries what tools/gate does with its words, its folder, its streams and its signals: gate.sh PROGRAM
+#
+# PROGRAM is the built groot; groot-map is on the path. Ends with status 1 if a step ends in another way than it should.
+what=gate
+# shellcheck source=.ci/expect.sh
+. "$(dirname "$0")/expect.sh"
+need_full_device
+install_programs "$1"
+
+# A repository whose metadata stand, and have a second row for a server with a misspelt name.
+make_repository words
+zone=etc/bind/zones/example.com.zone
+cat >metadata.json <<END
+{"TopNameServers": ["ns1.example.com."], "ZoneFiles": [
+  {"FileName": "$zone", "NameServer": "ns1.example.com.", "Origin": "example.com."}]}
+END
+gate=(groot-gate metadata.json)
+
+# 1. Targets without an address.
+expect 0 "no target" "${gate[@]}"
+echo '@       IN MX    10 gone' >>$zone
+expect 1 "a mail host without an address" "${gate[@]}"
+said "target-without-address: a record leads to a name that has no address"
+said "example.com. MX to gone.example.com., on ns1.example.com. ($zone:11)"
+said "no fault; 1 target without an address"
+holds report.sarif '.runs[0].results | map(.ruleId) == ["target-without-address"]'
+holds report.sarif ".runs[0].results[0].locations[0].physicalLocation | .artifactLocation.uri == \"$zone\" and .region.startLine == 11"
+cp groot-report/targets.tsv ci/targets.tsv
+expect 0 "a target that is known" "${gate[@]}" --old-targets ci/targets.tsv
+said "targets without an address: 1, new: 0"
+sed -i '1i ; a line that moves the others' $zone
+expect 0 "a target that is known, on another line" "${gate[@]}" --old-targets ci/targets.tsv
+echo '_sip._tcp IN SRV 1 2 5060 lost' >>$zone
+expect 1 "a new target beside one that is known" "${gate[@]}" --old-targets ci/targets.tsv
+said "targets without an address: 2, new: 1"
+said "_sip._tcp.example.com. SRV to lost.example.com."
+unsaid "MX to gone"
+expect 8 "a list of targets that is none" "${gate[@]}" --old-targets ci/known.json
+said "ci/known.json: it is no list of groot-map targets"
+sed -i '/gone$/d; /lost$/d; /^;/d' $zone
+
+# 2. Without groot-map, or with an older one.
+mkdir "$scratch/without" "$scratch/older"
+for program in jq groot groot-gate; do
+    ln -s "$(command -v $program)" "$scratch/without/$program"
+done
+ln -s "$(python3 -c 'import sys; print(sys.executable)')" "$scratch/without/python3"
+expect 2 "no groot-map" env PATH="$scratch/without" groot-gate metadata.json
+said "groot-map isn't on the path"
+expect 0 "no groot-map, on purpose" env PATH="$scratch/without" groot-gate metadata.json --without-map
+said "without groot-map: rows that no query reaches and targets without an address aren't looked for"
+printf '#!/bin/sh\necho "usage: groot-map records META | reached META" >&2\nexit 2\n' >"$scratch/older/groot-map"
+chmod +x "$scratch/older/groot-map"
+expect 2 "an older groot-map" env PATH="$scratch/older:$PATH" groot-gate metadata.json
+said "this groot-map has no word targets"
+
+# 3. The words of the gate, in any order.
+expect 4 "a limit of names" "${gate[@]}" --classes 3
+said "classes: more than 3"
+expect 0 "all limits" "${gate[@]}" --classes=100 --rewrites 3 --workers 1
+holds report.json '.rewrites == 3'
+for refused in "--classes 0" "--rewrites 65" "--workers many" "--unasked a..b" "--classes" "--no-such"; do
+    # shellcheck disable=SC2086  # it is two words
+    expect 2 "refused: $refused" groot-gate $refused metadata.json
+    [ "$(wc -l <"$scratch/said")" -eq 1 ] || { fault "refused: $refused: not one line"; cat "$scratch/said"; }
+done
+sed -i 's/^shop .*/shop    IN CNAME wwww/' $zone
+expect 1 "an alias to no name" "${gate[@]}"
+cp groot-report/report.json ci/one.json
+expect 0 "the known report behind META" groot-gate metadata.json --old ci/one.json
+said "no new fault; 1 known"
+sed -i 's/wwww/www/' $zone
+expect 0 "a fault that is gone" groot-gate --old ci/one.json metadata.json
+said "known and gone: 1"
+cp ci/one.json ./-one.json
+expect 0 "names of files that begin with a dash" groot-gate metadata.json --old=-one.json --into=-into
+rm -r ./-one.json ./-into
+mkdir -p far/below
+ln -s far/below link
+cp ci/one.json far/one.json
+expect 0 "paths that go up from where a link leads" groot-gate metadata.json --old link/../one.json --into link/../into
+said "known and gone: 1"
+[ -f far/into/report.json ] || fault "the folder isn't where the link leads"
+rm -r far link
+expect 0 "help" groot-gate --help
+said "usage: groot-gate [--old REPORT]"
+sed -i 's/ \]}/ ]}/; s/"example.com."}\]}/"example.com."},\n  {"FileName": "etc\/bind\/zones\/example.com.zone", "NameServer": "ns2.example.com.", "Origin": "example.com."}]}/' metadata.json
+expect 1 "a row that no query reaches" "${gate[@]}"
+for name in ns2.example.com NS2.Example.COM. 'n\1152\.x.example.com' '\110s2.example.com.'; do
+    wanted=0
+    case $name in *x*.com) [ "${name#*.x}" = "$name" ] || wanted=1 ;; esac
+    expect $wanted "--unasked $name" "${gate[@]}" --unasked "$name"
+done
+
+# 4. The folder: files of others stay, and those of a run are whole or not there.
+cp ci/known.json report.json
+expect 2 "a folder of others" groot-gate --into . --unasked ns2.example.com metadata.json
+said "it has files that groot-gate didn't make"
+cmp -s ci/known.json report.json || fault "a file of others is changed"
+rm report.json
+mkdir empty
+expect 0 "an empty folder" groot-gate --into empty --unasked ns2.example.com metadata.json
+expect 0 "the folder of an earlier run" groot-gate --into empty --unasked ns2.example.com metadata.json
+ln -sf ../ci/known.json empty/report.json
+expect 2 "a link in the place of a file" groot-gate --into empty --unasked ns2.example.com metadata.json
+said "it is no regular file"
+cmp -s "$top/examples/own-servers/report.json" ci/known.json || fault "the file behind a link is changed"
+rm empty/report.json
+mkfifo empty/report.json
+expect 2 "a pipe in the place of a file" groot-gate --into empty --unasked ns2.example.com metadata.json
+rm empty/report.json
+sed -i '/ns2/d; s/"example.com."},$/"example.com."}]}/' metadata.json
+(umask 027 && groot-gate --into modes metadata.json >/dev/null 2>&1)
+[ "$(stat -c %a modes/report.json)" = 640 ] || fault "the mode of a file isn't that of the umask"
+expect 8 "files of at most 512 octets" bash -c 'ulimit -f 1; trap "" XFSZ; exec groot-gate --into small metadata.json'
+said "views/all.jq was ended by signal 25"
+[ -z "$(find small -name 'report.html*' -o -name '*.part')" ] || fault "part of a file is left"
+
+# A stand-in for groot that waits, and says so.
+mkdir "$scratch/slow"
+cat >"$scratch/slow/groot" <<END
+#!/bin/sh
+echo \$\$ >$scratch/slow/pid
+printf '{"classes":'
+exec sleep 60
+END
+chmod +x "$scratch/slow/groot"
+for signal in TERM INT; do
+    rm -f "$scratch/slow/pid"
+    PATH="$scratch/slow:$PATH" env --default-signal=INT groot-gate --into stopped metadata.json >"$scratch/said" 2>&1 &
+    run=$!
+    for _ in $(seq 300); do
+        [ -s "$scratch/slow/pid" ] && break
+        sleep 0.1
+    done
+    expect 2 "a second run in one folder" groot-gate --into stopped metadata.json
+    said "another groot-gate is at work there"
+    kill -s "$signal" "$run"
+    wait "$run"
+    status=$?
+    [ "$status" -eq $((128 + $(kill -l "$signal"))) ] || fault "ended by $signal: status $status"
+    ! kill -0 "$(cat "$scratch/slow/pid")" 2>/dev/null || fault "ended by $signal: groot runs on"
+    [ -z "$(find stopped -name '*.part' -o -name report.json)" ] || fault "ended by $signal: part of a report is left"
+done
+
+# 5. The streams.
+expect 8 "a full output" bash -c 'groot-gate metadata.json >/dev/full'
+said "the standard output: No space left on device"
+expect 8 "a closed output" bash -c 'groot-gate metadata.json >&-'
+said "the standard output: it is closed"
+# shellcheck disable=SC2016  # the status is that of the inner shell
+expect 0 "a broken output" bash -c '{ groot-gate metadata.json; echo "status $?" >&2; } | true'
+said "status 8"
+said "the standard output: Broken pipe"
+expect 0 "a closed error" bash -c 'groot-gate metadata.json 2>&-'
+expect 0 "a full error" bash -c 'groot-gate metadata.json 2>/dev/full'
+expect 8 "help for a full output" bash -c 'groot-gate --help >/dev/full'
+printf '%s\n' "#!/bin/sh" "cat" "exec $(command -v groot) \"\$@\"" >"$scratch/slow/groot"
+echo "what is left" >"$scratch/input"
+# shellcheck disable=SC2016
+expect 0 "no input for what the gate runs" bash -c 'PATH="$1:$PATH"; { groot-gate metadata.json && cat; } <"$2"' - "$scratch/slow" "$scratch/input"
+said "what is left"
+
+# 6. What the log says of names.
+odd=$(printf 'zones \033[31m\342\200\256/x.zone')
+mkdir "${odd%/*}"
+cp $zone "$odd"
+printf '%s\n' '::error::x IN CNAME nowhere' '@ IN MX 10 ::stop-commands::y' >>"$odd"
+sed "s#$zone#$(printf 'zones \\\\u001b[31m\\\\u202e/x.zone')#" metadata.json >odd.json
+expect 1 "names that a terminal and a runner obey" groot-gate --into odd odd.json
+said "::error::x.example.com. to nowhere.example.com."
+! grep -q "$(printf '\033\\|\342\200\256')" "$scratch/said" || fault "the log has what a terminal obeys"
+! grep -q '^ *::' "$scratch/said" || fault "the log has what a runner obeys"
+echo 'broken' >>"$odd"
+expect 3 "a refused file with such a name" groot-gate --into odd odd.json
+! grep -q "$(printf '\033\\|\342\200\256')" "$scratch/said" || fault "the log has what a terminal obeys"
+
+# 7. Many faults: the log has the first lines, and the files have all.
+make_repository many
+mkdir -p "$scratch/stub" flat
+jq -c '.faults[0] as $one | .faults = [range(5100) | . as $at | (. / 17 | floor) as $zone | $one | .place.owner = "a\($at).example."
+    | .place.zone = "z\($zone).example." | .walks[0][0].to = "b\($zone).example."]' "$top/examples/blackhole/report.json" >"$scratch/stub/report"
+cat >"$scratch/stub/groot" <<END
+#!/bin/sh
+cat $scratch/stub/report
+exit 1
+END
+chmod +x "$scratch/stub/groot"
+cp "$top/examples/own-servers/zones/example.com.zone" flat/x.zone
+echo '{"TopNameServers": ["ns1.example.com."], "ZoneFiles": [{"FileName": "flat/x.zone", "NameServer": "ns1.example.com.", "Origin": "example.com."}]}' >metadata.json
+expect 1 "three hundred causes" env PATH="$scratch/stub:$PATH" groot-gate metadata.json
+said "more lines: groot-report/report.txt"
+[ "$(wc -l <"$scratch/said")" -lt 400 ] || fault "the log has all lines"
+[ "$(wc -l <groot-report/report.txt)" -gt 7000 ] || fault "report.txt hasn't all lines"
+said "report.sarif has 5000 of 5100 places"
+holds report.sarif '.runs[0].results | length == 5000'
+
+# 8. A file that was written out: what is said is of the operator's file and line.
+printf '%s\n' 'old     IN CNAME nowhere' 'h1      IN CNAME gone1' 'h2      IN CNAME gone2' '@       IN MX    10 lost' >>flat/x.zone
+printf '%s\n' "groot-metadata lines 1" "1	11	1	1	$PWD/etc/x.zone" "12	13	12	0	$PWD/etc/x.zone" "14	20	13	1	$PWD/etc/x.zone" >flat/x.zone.lines
+expect 1 "lines that were written out" groot-gate metadata.json
+said "old.example.com. to nowhere.example.com., on ns1.example.com. (etc/x.zone:11)"
+said "h1.example.com. to gone1.example.com., on ns1.example.com. (etc/x.zone:12)"
+said "h2.example.com. to gone2.example.com., on ns1.example.com. (etc/x.zone:12)"
+said "example.com. MX to lost.example.com., on ns1.example.com. (etc/x.zone:13)"
+holds report.sarif '[.runs[0].results[].locations[0].physicalLocation.artifactLocation.uri] | unique == ["etc/x.zone"]'
+echo 'broken' >>flat/x.zone
+expect 3 "a refused line that was copied" groot-gate metadata.json
+said "$PWD/etc/x.zone:14: no-type (written out as flat/x.zone:15)"
+
+# shellcheck disable=SC2154  # expect.sh sets it
+[ "$wrong" -ne 0 ] || echo "gate: its words, its folder, its streams, its signals and its log are as they should be"
+exit "$wrong"

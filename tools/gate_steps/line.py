@@ -1,0 +1,114 @@
+"""The words of groot-gate, of which those of its own may stand before and behind META."""
+import argparse
+from typing import Dict, Iterator, List, NamedTuple, NoReturn, Optional, Sequence, Tuple
+
+from server_zones.names import NotAName, canonical
+
+from .children import Ended
+from .terminal import put
+
+USAGE = """groot-gate [--old REPORT] [--old-targets LIST] [--unasked SERVER] [--into FOLDER]
+                  [--classes N] [--rewrites K] [--workers N] [--without-map] META [OPTION OF groot-metadata ..]"""
+VALUED = ("--old", "--old-targets", "--unasked", "--into", "--classes", "--rewrites", "--workers")
+FLAGS = ("--without-map", "--help", "-h")
+MOST = {"classes": 1_000_000, "rewrites": 64, "workers": 64}
+REFUSED = 2
+
+
+class Words(NamedTuple):
+    """What the command line asks for. `limits` are options of groot check, `options` those of groot-metadata, among which `also`
+    has further names of servers, each with the first one."""
+
+    meta: str
+    old: Optional[str]
+    old_targets: Optional[str]
+    unasked: List[str]
+    into: str
+    limits: List[str]
+    without_map: bool
+    options: List[str]
+    also: Dict[str, str]
+
+
+class Parser(argparse.ArgumentParser):
+    """A parser whose errors are one line, and whose help goes where output goes."""
+
+    def error(self, message: str) -> NoReturn:
+        """Ends the script."""
+        raise Ended(REFUSED, f"{message}; groot-gate --help lists the options")
+
+
+def words(line: Sequence[str]) -> Words:
+    """The words of the command line. Asked for help, it prints that and ends the script."""
+    own, options = sorted_out(line)
+    parser = parser_of()
+    if "--help" in own or "-h" in own:
+        put(parser.format_help().encode())
+        raise SystemExit(0)
+    found = parser.parse_args(own)
+    try:
+        unasked = [canonical(name) for name in found.unasked]
+        also = {canonical(other): canonical(first) for first, other in pairs(options, "--also")}
+    except NotAName as fault:
+        raise Ended(REFUSED, f"{fault}: not a name, and --unasked and --also want one") from None
+    limits = [word for name, most in MOST.items() for word in limit(name, getattr(found, name), most)]
+    return Words(found.meta, found.old, found.old_targets, unasked, found.into, limits, found.without_map, options, also)
+
+
+def sorted_out(line: Sequence[str]) -> Tuple[List[str], List[str]]:
+    """The gate's own words, with META, and those of groot-metadata, which stand behind META."""
+    own: List[str] = []
+    others: List[str] = []
+    meta_met, is_value = False, False
+    for word in line:
+        name, equals, _ = word.partition("=")
+        if is_value:
+            own[-1] += f"={word}"
+            is_value = False
+        elif name in VALUED or word in FLAGS:
+            own.append(word)
+            is_value = name in VALUED and not equals
+        elif meta_met:
+            others.append(word)
+        else:
+            own.append(word)
+            meta_met = not word.startswith("-")
+    return own, others
+
+
+def pairs(options: List[str], option: str) -> Iterator[Tuple[str, str]]:
+    """The pairs NAME=OTHER that an option of groot-metadata has."""
+    for place, word in enumerate(options):
+        text = options[place + 1] if word == option and place + 1 < len(options) else word.partition(f"{option}=")[2]
+        first, equals, other = text.partition("=")
+        if equals and other:
+            yield first, other
+
+
+def limit(name: str, text: Optional[str], most: int) -> List[str]:
+    """The words of groot check for a limit, if one is given."""
+    if text is None:
+        return []
+    if not (text.isascii() and text.isdigit() and 1 <= int(text) <= most):
+        raise Ended(REFUSED, f"--{name} {text}: write a number from 1 to {most}")
+    return [f"--{name}", text]
+
+
+def parser_of() -> Parser:
+    """The parser of the gate's own words."""
+    parser = Parser(prog="groot-gate", usage=USAGE, allow_abbrev=False, add_help=False, description=(
+        "Checks a configuration in a pipeline: metadata, rows that no query reaches, targets without an address, the report, "
+        "and what is new in it. Options of groot-metadata behind META make META first."))
+    parser.add_argument("--old", metavar="REPORT", help="a report whose faults are known; without it, all faults are new")
+    parser.add_argument("--old-targets", metavar="LIST", help="a list of groot-map targets whose lines are known")
+    parser.add_argument("--unasked", metavar="SERVER", action="append", default=[], help=(
+        "a server, as a hidden primary, whose rows no query needs to reach"))
+    parser.add_argument("--into", metavar="FOLDER", default="groot-report", help="where the files go (groot-report)")
+    parser.add_argument("--classes", metavar="N", help="how many names groot check may tell apart (100000)")
+    parser.add_argument("--rewrites", metavar="K", help="how many rewrites a query may use (12)")
+    parser.add_argument("--workers", metavar="N", help="how many threads judge (4)")
+    parser.add_argument("--without-map", action="store_true", help=(
+        "do without groot-map: no rows, no targets, and no file and line of a fault"))
+    parser.add_argument("--help", "-h", action="store_true", help="print this text")
+    parser.add_argument("meta", metavar="META", help="the metadata file")
+    return parser
