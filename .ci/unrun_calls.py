@@ -7,7 +7,9 @@ is to make each such call with ample memory. A line `file:line: name` names each
 Such a call is a `pub fn`, free or of a type, that a crate's lib.rt names or that stands in one of its public modules, and
 whose result names `NoMemory` or an enum with a variant of that name. Methods of traits aren't asked for.
 
-A function is reached where `main` or a reached one names it. A test reaches what it names itself, and no more.
+A function is reached where `main` or a reached one names it. A test reaches what it names itself, and no more; but of a call
+to which no `main` comes, as those that are there for other programs, also all to which that comes. HANDED_ON has the calls
+that only hand on to one that is reached.
 - A free function is named by `name(` in its crate, or where it is imported; a function of a type by `Type::name`.
 - A method is named by `.name(`, where the receiver may be of its type. The text before the point decides that: a field,
   a call's result, `self`, or a variable by its parameter, its `let`, its `for` or its pattern. Types are known by name
@@ -35,6 +37,8 @@ VARIANT = re.compile(r"^    ([A-Z]\w*)\s*(?:\(([^;]*?)\)|\{([^{}]*)\})?,", re.M)
 NAMED = re.compile(r"(\.\s*)?\b((?:\w+::(?:<[\w, ]*>::)?)*)(\w+)(?:::<[^()]*>)?\(|\b([A-Z]\w*)::(\w+)")
 CALLED = re.compile(r"(?:\b([A-Z]\w*)::(?:<[^()]*>::)?)?(\w*)(?:::<[^()]*>)?$")
 NO_TYPE = {"Option", "Result", "Some", "None", "Ok", "Err", "Self", "Box"}
+# `scope` has the report from the judge that a ScopeJudge wraps.
+HANDED_ON = {("ScopeJudge", "report"): ("Judge", "report")}
 
 
 def closing(text, at, pair):
@@ -168,16 +172,26 @@ class Sources:
             yield from (other for other in self.by_name[name] if other.home in homes)
 
     def reached(self):
-        """What the `main` of each program reaches, and what the tests name."""
-        reached = {other for test in self.functions if "tests" in test.file.words for other in self.named_by(test)}
-        met, left = set(), [function for function in self.by_name["main"] if function.file.crate in ("groot", "groot_map")]
+        """What the `main` of each program reaches, what the tests name, and what those reach of it to which no `main` comes."""
+        named = {other for test in self.functions if "tests" in test.file.words for other in self.named_by(test)}
+        mains = [function for function in self.by_name["main"] if function.file.crate in ("groot", "groot_map")]
+        met = self.followed(mains, set())
+        reached = self.followed(named - met, set(met)) | named
+        handed = {(function.home[1], function.name) for function in reached}
+        return reached | {
+            function for function in self.functions if HANDED_ON.get((function.home[1], function.name)) in handed
+        }
+
+    def followed(self, left, met):
+        """The functions that were met, with these and all that they reach."""
+        left = list(left)
         while left:
             function = left.pop()
             if function not in met:
                 met.add(function)
                 left += self.named_by(function)
                 left += [other for kind in function.types for other in self.of_types[kind]]
-        return reached | met
+        return met
 
     def asked(self):
         """The public calls that may answer want of memory."""
