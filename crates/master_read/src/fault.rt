@@ -124,7 +124,7 @@ impl EntryFault {
 
 impl TextFault {
     /// A fault of a spelling, in the file of this number.
-    pub fn of_spelling(file: u32, fault: LexFault) -> TextFault
+    pub(crate) fn of_spelling(file: u32, fault: LexFault) -> TextFault
         ensures { result ≡ text_fault.At file fault.line (cause.Lex fault.kind) }
     {
         TextFault::At {

@@ -15,5 +15,5 @@ mod substitution;
 mod sym_name;
 
 pub use redirection::{redirected, redirected_whole};
-pub use substitution::{fits, substitute, substitute_sym, substitute_whole};
+pub use substitution::{fits, substitute, substitute_sym};
 pub use sym_name::SymName;

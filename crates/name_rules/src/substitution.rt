@@ -53,7 +53,7 @@ pub fn substitute_sym(
 
 /// The name with its tail, the target's labels in the owner's place. It is `TooLong` where that name would have more than
 /// 255 octets. The owner may be the known name itself, which lies above a name with a tail.
-pub fn substitute_whole(
+pub(crate) fn substitute_whole(
     alloc: Global,
     name: &SymName,
     owner: &Name,

@@ -15,7 +15,7 @@ use Rattle.net_model.specs.Reading.{Ground, Redirection, zones, records, origins
 use Rattle.net_model.proofs.Prefixes.{prefixes_have, from_prefixes}
 
 -- the owner of a record's redirection is the record's
-owner_is : (owner : Labels) (rdata : Rdata) (redirection : Redirection) → Contains (redirection_of owner rdata) redirection → redirection.owner ≡ owner
+pub owner_is : (owner : Labels) (rdata : Rdata) (redirection : Redirection) → Contains (redirection_of owner rdata) redirection → redirection.owner ≡ owner
 owner_is owner (Dname target) redirection has = elim (first_or_later (record { owner = owner; target = target }) [] redirection has) [
   | inl same ↦ ap (λ (r : Redirection). r.owner) (sym same)
   | inr later ↦ absurd (none_in_nil redirection later)

@@ -2,7 +2,7 @@ mod Drawn
 mod Representatives
 mod Showing
 mod ShownBy
-mod Words
+pub mod Words
 mod Worked
 pub mod AllWalks
 pub mod Branches

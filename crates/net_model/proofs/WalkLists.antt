@@ -34,7 +34,7 @@ one_walks setting query rtype a b (paths, are, walks) (others, also, same) =
     same_items a b (sym walks ∙ ap (map (walk_along setting query rtype)) one ∙ same)
 
 -- two maps that agree on the items of a list give one list
-map_same : {X Y : Type 0} (f g : X → Y) (xs : List X) → ((x : X) → Contains xs x → f x ≡ g x) → map f xs ≡ map g xs
+pub map_same : {X Y : Type 0} (f g : X → Y) (xs : List X) → ((x : X) → Contains xs x → f x ≡ g x) → map f xs ≡ map g xs
 map_same f g [] agree = refl
 map_same f g (x ∷ xs) agree =
     ap (λ y. y ∷ map f xs) (agree x (has_first x xs)) ∙ ap (λ ys. g x ∷ ys) (map_same f g xs (λ y has. agree y (has_later x xs y has)))

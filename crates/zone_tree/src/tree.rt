@@ -115,7 +115,7 @@ impl<'a> Tree<'a> {
     }
 
     /// The node of the name with these labels, or `None` where that name doesn't exist in the zone.
-    pub fn node_of(&self, labels: &Labels<'_>) -> Option<NodeId>
+    pub(crate) fn node_of(&self, labels: &Labels<'_>) -> Option<NodeId>
         ensures node { IfSome result (IsNode self.now) }
         ensures name { IfSome result (λ node. name_of self.now node ≡ labels.now) }
         ensures none { IsNone result ↔ (exists_in self.now.zone labels.now ≡ false) }

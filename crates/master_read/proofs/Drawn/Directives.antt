@@ -11,70 +11,22 @@ directive_0 :
 unfolding directive_of include_directive is_utf8 chars lib.Utf8.encode
 directive_0 = refl
 
-directive_1 :
-    directive_of (context_with (codes "t" ∷ []) (Some 7) (Some 8) (Some (codes "t" ∷ []))) (token "$TT" ∷ token "60" ∷ [])
-    ≡ Err BadDirective
+directive_1 : directive_of (context_with [] None (Some 8) (Some (codes "t" ∷ []))) (token "$TT" ∷ token "60" ∷ in_quotes "x" ∷ []) ≡ Err BadDirective
 unfolding directive_of origin_directive ttl_directive
 directive_1 = refl
 
-directive_2 : directive_of (context_with [] None (Some 8) (Some (codes "t" ∷ []))) (token "$TT" ∷ token "60" ∷ in_quotes "x" ∷ []) ≡ Err BadDirective
-unfolding directive_of origin_directive ttl_directive
+directive_2 : directive_of (context_with (codes "t" ∷ []) None None (Some (codes "t" ∷ []))) (token "$INCLUDE" ∷ token "f" ∷ []) ≡ includes_file "f" (codes "t" ∷ [])
+unfolding directive_of include_directive is_utf8 chars lib.Utf8.encode
 directive_2 = refl
 
-directive_3 :
-    directive_of (context_with (codes "t" ∷ codes "a" ∷ []) None (Some 8) (Some (codes "t" ∷ []))) (token "$TTL" ∷ token "0" ∷ token "60" ∷ [])
-    ≡ Err BadDirective
+directive_3 : directive_of (context_with (codes "t" ∷ codes "a" ∷ []) None None None) (token "$TTL" ∷ in_quotes "" ∷ []) ≡ Err BadDirective
 unfolding directive_of origin_directive ttl_directive
 directive_3 = refl
 
-directive_4 :
-    directive_of (context_with (codes "t" ∷ []) (Some 7) None (Some (codes "t" ∷ []))) (token "$TTL" ∷ token "2147483647" ∷ [])
-    ≡ sets (context_with (codes "t" ∷ []) (Some 2147483647) None (Some (codes "t" ∷ [])))
+directive_4 : directive_of (context_with (codes "t" ∷ codes "a" ∷ []) (Some 7) None (Some (codes "t" ∷ []))) (token "$" ∷ []) ≡ Err BadDirective
 unfolding directive_of origin_directive ttl_directive
 directive_4 = refl
 
-directive_5 : directive_of (context_with (codes "t" ∷ []) None None (Some (codes "t" ∷ []))) (token "$INCLUDE" ∷ token "f" ∷ []) ≡ includes_file "f" (codes "t" ∷ [])
-unfolding directive_of include_directive is_utf8 chars lib.Utf8.encode
+directive_5 : directive_of (context_with [] (Some 7) None None) (token "$ORIGIN" ∷ token "." ∷ []) ≡ sets (context_with [] (Some 7) None None)
+unfolding directive_of origin_directive ttl_directive
 directive_5 = refl
-
-directive_6 : directive_of (context_with (codes "t" ∷ codes "a" ∷ []) None None None) (token "$TTL" ∷ in_quotes "" ∷ []) ≡ Err BadDirective
-unfolding directive_of origin_directive ttl_directive
-directive_6 = refl
-
-directive_7 : directive_of (context_with (codes "t" ∷ codes "a" ∷ []) (Some 7) None (Some (codes "t" ∷ []))) (token "$" ∷ []) ≡ Err BadDirective
-unfolding directive_of origin_directive ttl_directive
-directive_7 = refl
-
-directive_8 :
-    directive_of (context_with (codes "t" ∷ codes "a" ∷ []) (Some 7) None (Some (codes "t" ∷ []))) (token "$ORIGIN" ∷ token "t." ∷ [])
-    ≡ sets (context_with (codes "t" ∷ []) (Some 7) None (Some (codes "t" ∷ [])))
-unfolding directive_of origin_directive ttl_directive
-directive_8 = refl
-
-directive_9 :
-    directive_of (context_with [] None None (Some (codes "t" ∷ []))) (token "$origin" ∷ token "." ∷ [])
-    ≡ sets (context_with [] None None (Some (codes "t" ∷ [])))
-unfolding directive_of origin_directive ttl_directive
-directive_9 = refl
-
-directive_10 :
-    directive_of (context_with [] (Some 7) (Some 8) None) (token "$TTL" ∷ token "2147483647" ∷ [])
-    ≡ sets (context_with [] (Some 2147483647) (Some 8) None)
-unfolding directive_of origin_directive ttl_directive
-directive_10 = refl
-
-directive_11 :
-    directive_of (context_with (codes "t" ∷ codes "a" ∷ []) None None (Some (codes "t" ∷ []))) (token "$origin" ∷ token "sub" ∷ [])
-    ≡ sets (context_with (codes "t" ∷ codes "a" ∷ codes "sub" ∷ []) None None (Some (codes "t" ∷ [])))
-unfolding directive_of origin_directive ttl_directive
-directive_11 = refl
-
-directive_12 : directive_of (context_with [] (Some 7) None None) (token "$ORIGIN" ∷ token "." ∷ []) ≡ sets (context_with [] (Some 7) None None)
-unfolding directive_of origin_directive ttl_directive
-directive_12 = refl
-
-directive_13 :
-    directive_of (context_with (codes "t" ∷ codes "a" ∷ []) None None None) (token "$TTL" ∷ token "1h30m" ∷ [])
-    ≡ sets (context_with (codes "t" ∷ codes "a" ∷ []) (Some 5400) None None)
-unfolding directive_of origin_directive ttl_directive
-directive_13 = refl

@@ -25,26 +25,8 @@ order_4 = refl
 order_5 : fault_cmp (faults.Answers (Below (codes "t" ∷ codes "a" ∷ [])) types.A) (faults.Answers (Exact (codes "t" ∷ codes "a" ∷ [])) types.A) ≡ Greater
 order_5 = refl
 
-order_6 : fault_cmp (faults.Cyclic (cut_at (codes "t" ∷ []) [] (codes "t" ∷ []) (codes "t" ∷ codes "a" ∷ []))) (faults.Cyclic (cut_at (codes "t" ∷ []) (codes "t" ∷ codes "a" ∷ []) (codes "t" ∷ []) (codes "t" ∷ []))) ≡ Less
+order_6 : fault_cmp (faults.NoAddress (cut_at (codes "t" ∷ []) (codes "t" ∷ codes "a" ∷ []) (codes "t" ∷ []) (codes "t" ∷ codes "a" ∷ []))) (faults.NoAddress (cut_at (codes "t" ∷ codes "a" ∷ []) (codes "t" ∷ []) (codes "t" ∷ codes "a" ∷ []) [])) ≡ Less
 order_6 = refl
 
-order_7 : fault_cmp (faults.NoAddress (cut_at (codes "t" ∷ []) (codes "t" ∷ codes "a" ∷ []) (codes "t" ∷ []) (codes "t" ∷ codes "a" ∷ []))) (faults.NoAddress (cut_at (codes "t" ∷ codes "a" ∷ []) (codes "t" ∷ []) (codes "t" ∷ codes "a" ∷ []) [])) ≡ Less
+order_7 : fault_cmp (faults.Answers (Below (codes "t" ∷ [])) types.Txt) (faults.Answers (Below (codes "t" ∷ [])) types.Txt) ≡ Equal
 order_7 = refl
-
-order_8 : fault_cmp (faults.Answers (Below (codes "t" ∷ [])) types.Txt) (faults.Answers (Below (codes "t" ∷ [])) types.Txt) ≡ Equal
-order_8 = refl
-
-order_9 : fault_cmp (faults.Differs (cut_at (codes "t" ∷ codes "a" ∷ []) (codes "t" ∷ codes "a" ∷ []) [] (codes "t" ∷ codes "a" ∷ []))) (faults.Differs (cut_at (codes "t" ∷ codes "a" ∷ []) (codes "t" ∷ []) (codes "t" ∷ []) [])) ≡ Greater
-order_9 = refl
-
-order_10 : fault_cmp (faults.Differs (cut_at (codes "t" ∷ []) (codes "t" ∷ codes "a" ∷ []) (codes "t" ∷ []) [])) (faults.Differs (cut_at (codes "t" ∷ []) [] (codes "t" ∷ []) [])) ≡ Greater
-order_10 = refl
-
-order_11 : fault_cmp (faults.Lame (cut_at (codes "t" ∷ []) (codes "t" ∷ []) (codes "t" ∷ []) [])) (faults.Lame (cut_at (codes "t" ∷ codes "a" ∷ []) (codes "t" ∷ codes "a" ∷ []) [] (codes "t" ∷ []))) ≡ Less
-order_11 = refl
-
-order_12 : fault_cmp (faults.Answers (Exact (codes "t" ∷ codes "a" ∷ [])) types.A) (faults.Cyclic (cut_at [] [] [] (codes "t" ∷ codes "a" ∷ []))) ≡ Greater
-order_12 = refl
-
-order_13 : fault_cmp (faults.NoAddress (cut_at [] [] (codes "t" ∷ []) (codes "t" ∷ []))) (faults.NoAddress (cut_at (codes "t" ∷ []) [] (codes "t" ∷ codes "a" ∷ []) [])) ≡ Less
-order_13 = refl

@@ -1,7 +1,7 @@
 -- Faults that queries drawn at random show.
 use Rattle.std.specs.Prelude.{refl, [], ◌∷◌, codes}
 use Rattle.std.specs.Fmt.{digits}
-use Rattle.dns_data.specs.declared.rdata.Rdata.TheVariants.{A, Ns, Cname, Soa, Ptr, Hinfo, Txt, Srv, Dname, Caa}
+use Rattle.dns_data.specs.declared.rdata.Rdata.TheVariants.{A, Ns, Cname, Soa, Ptr, Hinfo, Txt, Srv, Dname}
 use Rattle.net_model.specs.declared.class.Class.TheVariants.{Exact, Below}
 use Rattle.net_model.specs.declared.config.Config.{Config}
 use Rattle.net_model.specs.declared.config.Zone.{Zone}
@@ -70,78 +70,6 @@ shown_1 =
     (class_below 0 (ground_of config_1) ((codes "b" ∷ codes "b" ∷ codes "b" ∷ []) ∷ (codes "b" ∷ codes "b" ∷ codes "b" ∷ codes "a" ∷ []) ∷ []) (codes "b" ∷ codes "b" ∷ []) (codes "b" ∷ codes "a" ∷ []) refl refl)
     (record { first = refl; second = refl; differ = λ e. cc })
 
-abbrev zone_2_0 : Zone
-zone_2_0 =
-    zone_at (codes "b" ∷ [])
-    (rr (codes "b" ∷ []) (Ns (codes "b" ∷ codes "m" ∷ []))
-    ∷ rr (codes "b" ∷ codes "m" ∷ []) (A (10 ∷ 0 ∷ 0 ∷ 1 ∷ []))
-    ∷ rr (codes "b" ∷ codes "a" ∷ []) (Ns (codes "b" ∷ codes "m" ∷ []))
-    ∷ rr (codes "b" ∷ codes "a" ∷ []) (Ns (codes "b" ∷ []))
-    ∷ rr (codes "b" ∷ []) (Soa (codes "b" ∷ codes "m" ∷ []) (codes "h" ∷ []) 1 7200 3 4 60)
-    ∷ [])
-
-abbrev config_2 : Config
-config_2 =
-    with_tops ((codes "b" ∷ codes "m" ∷ []) ∷ [])
-    (server_at (codes "b" ∷ codes "m" ∷ []) (zone_2_0 ∷ [])
-    ∷ [])
-
-shown_2 : ShowsIn config_2 3 (codes "b" ∷ codes "a" ∷ codes "a" ∷ []) types.Aaaa (faults.Lame (cut_at (codes "b" ∷ codes "m" ∷ []) (codes "b" ∷ []) (codes "b" ∷ codes "a" ∷ []) (codes "b" ∷ codes "m" ∷ [])))
-unfolding digits
-shown_2 =
-    shown_by config_2 3 (codes "b" ∷ codes "a" ∷ codes "a" ∷ []) types.Aaaa (faults.Lame (cut_at (codes "b" ∷ codes "m" ∷ []) (codes "b" ∷ []) (codes "b" ∷ codes "a" ∷ []) (codes "b" ∷ codes "m" ∷ []))) (0 ∷ 1 ∷ []) _ (λ followed. refl) tt
-    (record { behind = ([], refl); ends = refl })
-
-abbrev zone_3_0 : Zone
-zone_3_0 =
-    zone_at (codes "b" ∷ codes "b" ∷ [])
-    (rr (codes "b" ∷ codes "b" ∷ []) (Soa (codes "x" ∷ codes "b" ∷ []) (codes "h" ∷ []) 1 7200 3 4 60)
-    ∷ rr (codes "b" ∷ codes "b" ∷ []) (Ns (codes "x" ∷ codes "b" ∷ []))
-    ∷ rr (codes "b" ∷ codes "b" ∷ codes "a" ∷ codes "a" ∷ []) (Caa 128 (codes "issue") (codes "x"))
-    ∷ rr (codes "b" ∷ codes "b" ∷ codes "a" ∷ codes "b" ∷ []) (Cname (codes "b" ∷ codes "b" ∷ codes "b" ∷ codes "b" ∷ codes "a" ∷ []))
-    ∷ [])
-
-abbrev config_3 : Config
-config_3 =
-    with_tops ((codes "x" ∷ codes "b" ∷ []) ∷ [])
-    (server_at (codes "x" ∷ codes "b" ∷ []) (zone_3_0 ∷ [])
-    ∷ [])
-
-shown_3 : ShowsIn config_3 2 (codes "b" ∷ codes "b" ∷ codes "a" ∷ codes "b" ∷ []) types.Aaaa (faults.Blackhole (place_at (codes "x" ∷ codes "b" ∷ []) (codes "b" ∷ codes "b" ∷ []) (codes "b" ∷ codes "b" ∷ codes "a" ∷ codes "b" ∷ [])))
-unfolding digits
-shown_3 =
-    shown_by config_3 2 (codes "b" ∷ codes "b" ∷ codes "a" ∷ codes "b" ∷ []) types.Aaaa (faults.Blackhole (place_at (codes "x" ∷ codes "b" ∷ []) (codes "b" ∷ codes "b" ∷ []) (codes "b" ∷ codes "b" ∷ codes "a" ∷ codes "b" ∷ []))) (0 ∷ 0 ∷ 0 ∷ []) _ (λ followed. refl) tt
-    (record { rewritten = record { before = _ ∷ []; last = _; states = refl; at_place = refl }; ends = refl })
-
-abbrev zone_4_0 : Zone
-zone_4_0 =
-    zone_at (codes "c" ∷ codes "c" ∷ codes "a" ∷ [])
-    (rr (codes "c" ∷ codes "c" ∷ codes "a" ∷ codes "b" ∷ codes "c" ∷ codes "b" ∷ codes "c" ∷ []) (Cname (codes "c" ∷ codes "c" ∷ codes "a" ∷ codes "a" ∷ []))
-    ∷ rr (codes "c" ∷ codes "c" ∷ codes "a" ∷ []) (Soa (codes "x" ∷ codes "b" ∷ []) (codes "h" ∷ []) 1 7200 3 4 60)
-    ∷ [])
-
-abbrev zone_4_1 : Zone
-zone_4_1 =
-    zone_at (codes "c" ∷ codes "c" ∷ [])
-    (rr (codes "c" ∷ codes "c" ∷ []) (Soa (codes "x" ∷ codes "b" ∷ []) (codes "h" ∷ []) 1 7200 3 4 60)
-    ∷ rr (codes "c" ∷ codes "c" ∷ []) (Ns (codes "x" ∷ codes "b" ∷ []))
-    ∷ rr (codes "c" ∷ codes "c" ∷ codes "a" ∷ []) (Ns (codes "x" ∷ codes "b" ∷ []))
-    ∷ rr (codes "c" ∷ codes "c" ∷ codes "b" ∷ []) (Dname (codes "c" ∷ codes "c" ∷ codes "a" ∷ []))
-    ∷ rr (codes "c" ∷ codes "c" ∷ codes "a" ∷ codes "c" ∷ []) (A (10 ∷ 0 ∷ 0 ∷ 1 ∷ []))
-    ∷ rr (codes "c" ∷ codes "c" ∷ codes "b" ∷ codes "c" ∷ codes "a" ∷ codes "c" ∷ []) (Cname (codes "c" ∷ codes "c" ∷ codes "b" ∷ []))
-    ∷ [])
-
-abbrev config_4 : Config
-config_4 =
-    with_tops ((codes "x" ∷ codes "b" ∷ []) ∷ [])
-    (server_at (codes "x" ∷ codes "b" ∷ []) (zone_4_0 ∷ zone_4_1 ∷ [])
-    ∷ [])
-
-shown_4 : ShowsIn config_4 1 (codes "c" ∷ codes "c" ∷ codes "b" ∷ codes "*" ∷ []) types.A (faults.Blackhole (place_at (codes "x" ∷ codes "b" ∷ []) (codes "c" ∷ codes "c" ∷ []) (codes "c" ∷ codes "c" ∷ codes "b" ∷ [])))
-shown_4 =
-    shown_by config_4 1 (codes "c" ∷ codes "c" ∷ codes "b" ∷ codes "*" ∷ []) types.A (faults.Blackhole (place_at (codes "x" ∷ codes "b" ∷ []) (codes "c" ∷ codes "c" ∷ []) (codes "c" ∷ codes "c" ∷ codes "b" ∷ []))) (0 ∷ 0 ∷ 0 ∷ []) _ (λ followed. refl) tt
-    (record { rewritten = record { before = _ ∷ []; last = _; states = refl; at_place = refl }; ends = refl })
-
 abbrev zone_5_0 : Zone
 zone_5_0 =
     zone_at (codes "p" ∷ [])
@@ -180,8 +108,8 @@ config_5 =
     ∷ server_at (codes "s3" ∷ []) (zone_5_3 ∷ [])
     ∷ [])
 
-shown_5 : ShowsIn config_5 2 (codes "p" ∷ []) types.Txt (faults.Answers (Exact (codes "p" ∷ [])) types.Txt)
-shown_5 =
+shown_2 : ShowsIn config_5 2 (codes "p" ∷ []) types.Txt (faults.Answers (Exact (codes "p" ∷ [])) types.Txt)
+shown_2 =
     shown_by_two config_5 2 (codes "p" ∷ []) types.Txt (Exact (codes "p" ∷ [])) (0 ∷ 0 ∷ []) (1 ∷ 0 ∷ []) _ _ (λ followed. refl) (λ followed. refl)
     (class_of_named 0 (ground_of config_5) (codes "p" ∷ []) refl)
     (record { first = refl; second = refl; differ = λ e. cc })
@@ -203,8 +131,8 @@ config_6 =
     (server_at (codes "x" ∷ codes "n" ∷ codes "n" ∷ []) (zone_6_0 ∷ [])
     ∷ [])
 
-shown_6 : ShowsIn config_6 3 (codes "a" ∷ codes "a" ∷ codes "b" ∷ codes "b" ∷ []) types.Txt (faults.Lame (cut_at (codes "x" ∷ codes "n" ∷ codes "n" ∷ []) (codes "a" ∷ []) (codes "a" ∷ codes "b" ∷ []) (codes "x" ∷ codes "n" ∷ codes "n" ∷ [])))
-shown_6 =
+shown_3 : ShowsIn config_6 3 (codes "a" ∷ codes "a" ∷ codes "b" ∷ codes "b" ∷ []) types.Txt (faults.Lame (cut_at (codes "x" ∷ codes "n" ∷ codes "n" ∷ []) (codes "a" ∷ []) (codes "a" ∷ codes "b" ∷ []) (codes "x" ∷ codes "n" ∷ codes "n" ∷ [])))
+shown_3 =
     shown_by config_6 3 (codes "a" ∷ codes "a" ∷ codes "b" ∷ codes "b" ∷ []) types.Txt (faults.Lame (cut_at (codes "x" ∷ codes "n" ∷ codes "n" ∷ []) (codes "a" ∷ []) (codes "a" ∷ codes "b" ∷ []) (codes "x" ∷ codes "n" ∷ codes "n" ∷ []))) (0 ∷ 0 ∷ 0 ∷ []) _ (λ followed. refl) tt
     (record { behind = (_ ∷ [], refl); ends = refl })
 
@@ -233,98 +161,11 @@ config_7 =
     (server_at (codes "b" ∷ codes "a" ∷ codes "a" ∷ codes "b" ∷ codes "n" ∷ []) (zone_7_0 ∷ zone_7_1 ∷ [])
     ∷ [])
 
-shown_7 : ShowsIn config_7 3 (codes "b" ∷ codes "a" ∷ codes "a" ∷ codes "b" ∷ codes "n" ∷ codes "b" ∷ []) types.Aaaa (faults.Limit (place_at (codes "b" ∷ codes "a" ∷ codes "a" ∷ codes "b" ∷ codes "n" ∷ []) (codes "b" ∷ codes "a" ∷ codes "a" ∷ []) (codes "b" ∷ codes "a" ∷ codes "a" ∷ [])))
+shown_4 : ShowsIn config_7 3 (codes "b" ∷ codes "a" ∷ codes "a" ∷ codes "b" ∷ codes "n" ∷ codes "b" ∷ []) types.Aaaa (faults.Limit (place_at (codes "b" ∷ codes "a" ∷ codes "a" ∷ codes "b" ∷ codes "n" ∷ []) (codes "b" ∷ codes "a" ∷ codes "a" ∷ []) (codes "b" ∷ codes "a" ∷ codes "a" ∷ [])))
 unfolding digits
-shown_7 =
+shown_4 =
     shown_by config_7 3 (codes "b" ∷ codes "a" ∷ codes "a" ∷ codes "b" ∷ codes "n" ∷ codes "b" ∷ []) types.Aaaa (faults.Limit (place_at (codes "b" ∷ codes "a" ∷ codes "a" ∷ codes "b" ∷ codes "n" ∷ []) (codes "b" ∷ codes "a" ∷ codes "a" ∷ []) (codes "b" ∷ codes "a" ∷ codes "a" ∷ []))) (0 ∷ 0 ∷ 0 ∷ 0 ∷ 0 ∷ []) _ (λ followed. refl) tt
     refl
-
-abbrev zone_8_0 : Zone
-zone_8_0 =
-    zone_at (codes "p" ∷ [])
-    (rr (codes "p" ∷ []) (Soa (codes "s1" ∷ []) (codes "h" ∷ []) 1 2 3 4 5)
-    ∷ rr (codes "p" ∷ []) (Dname (codes "q" ∷ codes "a0" ∷ []))
-    ∷ [])
-
-abbrev zone_8_1 : Zone
-zone_8_1 =
-    zone_at (codes "p" ∷ [])
-    (rr (codes "p" ∷ []) (Soa (codes "s1" ∷ []) (codes "h" ∷ []) 1 2 3 4 5)
-    ∷ rr (codes "p" ∷ []) (Dname (codes "q" ∷ codes "b1" ∷ []))
-    ∷ [])
-
-abbrev zone_8_2 : Zone
-zone_8_2 =
-    zone_at (codes "q" ∷ [])
-    (rr (codes "q" ∷ []) (Soa (codes "s1" ∷ []) (codes "h" ∷ []) 1 2 3 4 5)
-    ∷ rr (codes "q" ∷ []) (Dname (codes "p" ∷ codes "a0" ∷ []))
-    ∷ [])
-
-abbrev zone_8_3 : Zone
-zone_8_3 =
-    zone_at (codes "q" ∷ [])
-    (rr (codes "q" ∷ []) (Soa (codes "s1" ∷ []) (codes "h" ∷ []) 1 2 3 4 5)
-    ∷ rr (codes "q" ∷ []) (Dname (codes "p" ∷ codes "b1" ∷ []))
-    ∷ [])
-
-abbrev config_8 : Config
-config_8 =
-    with_tops ((codes "s0" ∷ []) ∷ (codes "s1" ∷ []) ∷ (codes "s3" ∷ []) ∷ [])
-    (server_at (codes "s0" ∷ []) (zone_8_0 ∷ [])
-    ∷ server_at (codes "s1" ∷ []) (zone_8_1 ∷ [])
-    ∷ server_at (codes "s2" ∷ codes "q" ∷ codes "a" ∷ []) (zone_8_2 ∷ [])
-    ∷ server_at (codes "s3" ∷ []) (zone_8_3 ∷ [])
-    ∷ [])
-
-shown_8 : ShowsIn config_8 1 (codes "q" ∷ codes "a" ∷ codes "*" ∷ []) types.Aaaa (faults.Limit (place_at (codes "s0" ∷ []) (codes "p" ∷ []) (codes "p" ∷ [])))
-unfolding digits
-shown_8 =
-    shown_by config_8 1 (codes "q" ∷ codes "a" ∷ codes "*" ∷ []) types.Aaaa (faults.Limit (place_at (codes "s0" ∷ []) (codes "p" ∷ []) (codes "p" ∷ []))) (2 ∷ 0 ∷ 0 ∷ []) _ (λ followed. refl) tt
-    refl
-
-abbrev zone_9_0 : Zone
-zone_9_0 =
-    zone_at (codes "p" ∷ [])
-    (rr (codes "p" ∷ []) (Soa (codes "s1" ∷ []) (codes "h" ∷ []) 1 2 3 4 5)
-    ∷ rr (codes "p" ∷ codes "*" ∷ []) (Cname (codes "q" ∷ codes "a0" ∷ []))
-    ∷ [])
-
-abbrev zone_9_1 : Zone
-zone_9_1 =
-    zone_at (codes "p" ∷ [])
-    (rr (codes "p" ∷ []) (Soa (codes "s1" ∷ []) (codes "h" ∷ []) 1 2 3 4 5)
-    ∷ rr (codes "p" ∷ []) (Dname (codes "q" ∷ codes "b1" ∷ []))
-    ∷ [])
-
-abbrev zone_9_2 : Zone
-zone_9_2 =
-    zone_at (codes "q" ∷ [])
-    (rr (codes "q" ∷ []) (Soa (codes "s1" ∷ []) (codes "h" ∷ []) 1 2 3 4 5)
-    ∷ rr (codes "q" ∷ []) (Dname (codes "p" ∷ codes "a0" ∷ []))
-    ∷ [])
-
-abbrev zone_9_3 : Zone
-zone_9_3 =
-    zone_at (codes "q" ∷ [])
-    (rr (codes "q" ∷ []) (Soa (codes "s1" ∷ []) (codes "h" ∷ []) 1 2 3 4 5)
-    ∷ rr (codes "q" ∷ []) (Dname (codes "p" ∷ codes "b1" ∷ []))
-    ∷ rr (codes "q" ∷ []) (Txt (codes "q" ∷ []))
-    ∷ [])
-
-abbrev config_9 : Config
-config_9 =
-    with_tops ((codes "s0" ∷ []) ∷ (codes "s1" ∷ []) ∷ (codes "s2" ∷ []) ∷ (codes "s3" ∷ codes "q" ∷ codes "a" ∷ []) ∷ [])
-    (server_at (codes "s0" ∷ []) (zone_9_0 ∷ [])
-    ∷ server_at (codes "s1" ∷ []) (zone_9_1 ∷ [])
-    ∷ server_at (codes "s2" ∷ []) (zone_9_2 ∷ [])
-    ∷ server_at (codes "s3" ∷ codes "q" ∷ codes "a" ∷ []) (zone_9_3 ∷ [])
-    ∷ [])
-
-shown_9 : ShowsIn config_9 2 (codes "q" ∷ []) types.Txt (faults.Answers (Exact (codes "q" ∷ [])) types.Txt)
-shown_9 =
-    shown_by_two config_9 2 (codes "q" ∷ []) types.Txt (Exact (codes "q" ∷ [])) (2 ∷ 0 ∷ []) (3 ∷ 0 ∷ []) _ _ (λ followed. refl) (λ followed. refl)
-    (class_of_named 0 (ground_of config_9) (codes "q" ∷ []) refl)
-    (record { first = refl; second = refl; differ = λ e. cc })
 
 abbrev zone_10_0 : Zone
 zone_10_0 =
@@ -351,13 +192,8 @@ config_10 =
     ∷ server_at (codes "a" ∷ codes "b" ∷ codes "a" ∷ codes "n" ∷ []) (zone_10_1 ∷ [])
     ∷ [])
 
-shown_10 : ShowsIn config_10 1 (codes "a" ∷ codes "b" ∷ codes "c" ∷ codes "b" ∷ codes "a" ∷ codes "a" ∷ codes "c" ∷ []) types.A (faults.Lame (cut_at (codes "a" ∷ codes "b" ∷ codes "a" ∷ codes "n" ∷ []) (codes "a" ∷ codes "b" ∷ []) (codes "a" ∷ codes "b" ∷ codes "c" ∷ codes "b" ∷ codes "a" ∷ codes "a" ∷ []) (codes "a" ∷ codes "b" ∷ codes "a" ∷ codes "n" ∷ [])))
-shown_10 =
-    shown_by config_10 1 (codes "a" ∷ codes "b" ∷ codes "c" ∷ codes "b" ∷ codes "a" ∷ codes "a" ∷ codes "c" ∷ []) types.A (faults.Lame (cut_at (codes "a" ∷ codes "b" ∷ codes "a" ∷ codes "n" ∷ []) (codes "a" ∷ codes "b" ∷ []) (codes "a" ∷ codes "b" ∷ codes "c" ∷ codes "b" ∷ codes "a" ∷ codes "a" ∷ []) (codes "a" ∷ codes "b" ∷ codes "a" ∷ codes "n" ∷ []))) (0 ∷ 0 ∷ []) _ (λ followed. refl) tt
-    (record { behind = ([], refl); ends = refl })
-
-shown_11 : ShowsIn config_10 1 (codes "a" ∷ codes "b" ∷ codes "a" ∷ codes "b" ∷ []) types.Aaaa (faults.Differs (cut_at (codes "a" ∷ codes "b" ∷ codes "a" ∷ codes "n" ∷ []) (codes "a" ∷ codes "b" ∷ []) (codes "a" ∷ codes "b" ∷ codes "a" ∷ []) (codes "a" ∷ codes "b" ∷ codes "n" ∷ codes "n" ∷ [])))
+shown_5 : ShowsIn config_10 1 (codes "a" ∷ codes "b" ∷ codes "a" ∷ codes "b" ∷ []) types.Aaaa (faults.Differs (cut_at (codes "a" ∷ codes "b" ∷ codes "a" ∷ codes "n" ∷ []) (codes "a" ∷ codes "b" ∷ []) (codes "a" ∷ codes "b" ∷ codes "a" ∷ []) (codes "a" ∷ codes "b" ∷ codes "n" ∷ codes "n" ∷ [])))
 unfolding digits
-shown_11 =
+shown_5 =
     shown_by config_10 1 (codes "a" ∷ codes "b" ∷ codes "a" ∷ codes "b" ∷ []) types.Aaaa (faults.Differs (cut_at (codes "a" ∷ codes "b" ∷ codes "a" ∷ codes "n" ∷ []) (codes "a" ∷ codes "b" ∷ []) (codes "a" ∷ codes "b" ∷ codes "a" ∷ []) (codes "a" ∷ codes "b" ∷ codes "n" ∷ codes "n" ∷ []))) (0 ∷ 0 ∷ 0 ∷ []) _ (λ followed. refl) tt
     (record { refers = (0, omega arith, refl); zones = record { sides = record { above = _; below = _; refers = refl; serves = refl }; differ = λ e. cc } })

@@ -57,36 +57,6 @@ shown_0 =
     shown_by config_11 1 (codes "p" ∷ codes "b" ∷ []) types.Aaaa (faults.Limit (place_at (codes "s2" ∷ []) (codes "q" ∷ []) (codes "q" ∷ []))) (0 ∷ 1 ∷ 0 ∷ []) _ (λ followed. refl) tt
     refl
 
-abbrev zone_12_0 : Zone
-zone_12_0 =
-    zone_at (codes "a" ∷ codes "b" ∷ [])
-    (rr (codes "a" ∷ codes "b" ∷ []) (Soa (codes "a" ∷ codes "b" ∷ codes "b" ∷ codes "b" ∷ []) (codes "h" ∷ []) 1 7200 3 4 60)
-    ∷ rr (codes "a" ∷ codes "b" ∷ codes "b" ∷ codes "b" ∷ []) (A (10 ∷ 0 ∷ 0 ∷ 1 ∷ []))
-    ∷ [])
-
-abbrev zone_12_1 : Zone
-zone_12_1 =
-    zone_at []
-    (rr [] (Soa (codes "a" ∷ codes "b" ∷ codes "b" ∷ codes "b" ∷ []) (codes "h" ∷ []) 1 7200 3 4 60)
-    ∷ rr [] (Ns (codes "a" ∷ codes "b" ∷ codes "b" ∷ codes "b" ∷ []))
-    ∷ rr (codes "a" ∷ codes "b" ∷ []) (Ns (codes "a" ∷ codes "a" ∷ []))
-    ∷ rr (codes "a" ∷ codes "b" ∷ []) (Ns (codes "n" ∷ codes "n" ∷ []))
-    ∷ rr (codes "a" ∷ codes "b" ∷ codes "b" ∷ codes "b" ∷ []) (A (10 ∷ 0 ∷ 0 ∷ 3 ∷ []))
-    ∷ [])
-
-abbrev config_12 : Config
-config_12 =
-    with_tops ((codes "a" ∷ codes "a" ∷ []) ∷ (codes "a" ∷ codes "b" ∷ codes "b" ∷ codes "b" ∷ []) ∷ [])
-    (server_at (codes "a" ∷ codes "a" ∷ []) (zone_12_0 ∷ [])
-    ∷ server_at (codes "n" ∷ codes "n" ∷ []) (zone_12_0 ∷ [])
-    ∷ server_at (codes "a" ∷ codes "b" ∷ codes "b" ∷ codes "b" ∷ []) (zone_12_1 ∷ [])
-    ∷ [])
-
-shown_1 : ShowsIn config_12 3 (codes "a" ∷ codes "b" ∷ []) types.A (faults.Differs (cut_at (codes "a" ∷ codes "b" ∷ codes "b" ∷ codes "b" ∷ []) [] (codes "a" ∷ codes "b" ∷ []) (codes "a" ∷ codes "a" ∷ [])))
-shown_1 =
-    shown_by config_12 3 (codes "a" ∷ codes "b" ∷ []) types.A (faults.Differs (cut_at (codes "a" ∷ codes "b" ∷ codes "b" ∷ codes "b" ∷ []) [] (codes "a" ∷ codes "b" ∷ []) (codes "a" ∷ codes "a" ∷ []))) (1 ∷ 0 ∷ 0 ∷ []) _ (λ followed. refl) tt
-    (record { refers = (0, omega arith, refl); zones = record { sides = record { above = _; below = _; refers = refl; serves = refl }; differ = λ e. cc } })
-
 abbrev zone_13_0 : Zone
 zone_13_0 =
     zone_at (codes "a" ∷ codes "b" ∷ [])
@@ -103,8 +73,8 @@ config_13 =
     (server_at (codes "x" ∷ codes "b" ∷ codes "n" ∷ []) (zone_13_0 ∷ [])
     ∷ [])
 
-shown_2 : ShowsIn config_13 2 (codes "a" ∷ codes "b" ∷ codes "b" ∷ codes "c" ∷ []) types.Txt (faults.NoGlue (cut_at (codes "x" ∷ codes "b" ∷ codes "n" ∷ []) (codes "a" ∷ codes "b" ∷ []) (codes "a" ∷ codes "b" ∷ codes "b" ∷ []) (codes "a" ∷ codes "b" ∷ codes "b" ∷ codes "b" ∷ [])))
-shown_2 =
+shown_1 : ShowsIn config_13 2 (codes "a" ∷ codes "b" ∷ codes "b" ∷ codes "c" ∷ []) types.Txt (faults.NoGlue (cut_at (codes "x" ∷ codes "b" ∷ codes "n" ∷ []) (codes "a" ∷ codes "b" ∷ []) (codes "a" ∷ codes "b" ∷ codes "b" ∷ []) (codes "a" ∷ codes "b" ∷ codes "b" ∷ codes "b" ∷ [])))
+shown_1 =
     shown_by config_13 2 (codes "a" ∷ codes "b" ∷ codes "b" ∷ codes "c" ∷ []) types.Txt (faults.NoGlue (cut_at (codes "x" ∷ codes "b" ∷ codes "n" ∷ []) (codes "a" ∷ codes "b" ∷ []) (codes "a" ∷ codes "b" ∷ codes "b" ∷ []) (codes "a" ∷ codes "b" ∷ codes "b" ∷ codes "b" ∷ []))) (0 ∷ 0 ∷ []) _ (λ followed. refl) tt
     (record { refers = (0, omega arith, refl); wants = record { inside = refl; no_glue = refl } })
 
@@ -125,8 +95,8 @@ config_14 =
     (server_at (codes "b" ∷ codes "c" ∷ codes "n" ∷ []) (zone_14_0 ∷ [])
     ∷ [])
 
-shown_3 : ShowsIn config_14 3 (codes "b" ∷ codes "c" ∷ codes "a" ∷ codes "b" ∷ codes "b" ∷ codes "*" ∷ []) types.A (faults.NoGlue (cut_at (codes "b" ∷ codes "c" ∷ codes "n" ∷ []) (codes "b" ∷ codes "c" ∷ []) (codes "b" ∷ codes "c" ∷ codes "a" ∷ []) (codes "b" ∷ codes "c" ∷ codes "a" ∷ [])))
-shown_3 =
+shown_2 : ShowsIn config_14 3 (codes "b" ∷ codes "c" ∷ codes "a" ∷ codes "b" ∷ codes "b" ∷ codes "*" ∷ []) types.A (faults.NoGlue (cut_at (codes "b" ∷ codes "c" ∷ codes "n" ∷ []) (codes "b" ∷ codes "c" ∷ []) (codes "b" ∷ codes "c" ∷ codes "a" ∷ []) (codes "b" ∷ codes "c" ∷ codes "a" ∷ [])))
+shown_2 =
     shown_by config_14 3 (codes "b" ∷ codes "c" ∷ codes "a" ∷ codes "b" ∷ codes "b" ∷ codes "*" ∷ []) types.A (faults.NoGlue (cut_at (codes "b" ∷ codes "c" ∷ codes "n" ∷ []) (codes "b" ∷ codes "c" ∷ []) (codes "b" ∷ codes "c" ∷ codes "a" ∷ []) (codes "b" ∷ codes "c" ∷ codes "a" ∷ []))) (0 ∷ 0 ∷ []) _ (λ followed. refl) tt
     (record { refers = (0, omega arith, refl); wants = record { inside = refl; no_glue = refl } })
 
@@ -164,7 +134,7 @@ config_15 =
 none_is_learnt : IsInForce config_15 1 []
 none_is_learnt = after_same_rounds config_15 1 2 [] (is_round config_15 1 [] [] (ByNone 3 ∷ ByNone 3 ∷ []) refl refl)
 
-shown_4 : ShowsIn config_15 1 (codes "c" ∷ []) types.A (faults.Differs (cut_at (codes "a" ∷ codes "n" ∷ []) [] (codes "c" ∷ []) (codes "x" ∷ codes "n" ∷ [])))
-shown_4 =
+shown_3 : ShowsIn config_15 1 (codes "c" ∷ []) types.A (faults.Differs (cut_at (codes "a" ∷ codes "n" ∷ []) [] (codes "c" ∷ []) (codes "x" ∷ codes "n" ∷ [])))
+shown_3 =
     shown_while config_15 1 [] none_is_learnt (codes "c" ∷ []) types.A (faults.Differs (cut_at (codes "a" ∷ codes "n" ∷ []) [] (codes "c" ∷ []) (codes "x" ∷ codes "n" ∷ []))) (0 ∷ 0 ∷ []) _ refl tt
     (record { refers = (0, omega arith, refl); zones = record { sides = record { above = _; below = _; refers = refl; serves = refl }; differ = λ e. cc } })

@@ -59,55 +59,6 @@ walk_1 : walk_along (following_all config_5 3) (codes "a" ∷ codes "b" ∷ code
     })
 walk_1 = refl
 
-walk_2 : walk_along (following_all config_5 3) (codes "a" ∷ codes "b" ∷ codes "b" ∷ codes "*" ∷ []) types.A (1 ∷ 0 ∷ 1 ∷ 0 ∷ [])
-    ≡ Some
-    (record {
-      states =
-          record { server = codes "a" ∷ codes "b" ∷ codes "n" ∷ []; name = codes "a" ∷ codes "b" ∷ codes "b" ∷ codes "*" ∷ []; carried = true; cut = 0; used = 0; last = None; zone = Some (codes "a" ∷ codes "b" ∷ []) }
-          ∷ record { server = codes "a" ∷ codes "b" ∷ codes "n" ∷ []; name = codes "a" ∷ codes "b" ∷ codes "a" ∷ codes "b" ∷ codes "*" ∷ []; carried = true; cut = 0; used = 1; last = Some (place_at (codes "a" ∷ codes "b" ∷ codes "n" ∷ []) (codes "a" ∷ codes "b" ∷ []) (codes "a" ∷ codes "b" ∷ codes "b" ∷ [])); zone = Some (codes "a" ∷ codes "b" ∷ []) }
-          ∷ record { server = codes "a" ∷ codes "b" ∷ codes "n" ∷ []; name = codes "a" ∷ codes "c" ∷ codes "c" ∷ codes "b" ∷ codes "*" ∷ []; carried = true; cut = 0; used = 2; last = Some (place_at (codes "a" ∷ codes "b" ∷ codes "n" ∷ []) (codes "a" ∷ codes "b" ∷ []) (codes "a" ∷ codes "b" ∷ codes "a" ∷ [])); zone = None }
-          ∷ [];
-      hops = Rewrite (place_at (codes "a" ∷ codes "b" ∷ codes "n" ∷ []) (codes "a" ∷ codes "b" ∷ []) (codes "a" ∷ codes "b" ∷ codes "b" ∷ [])) true (codes "a" ∷ codes "b" ∷ codes "a" ∷ codes "b" ∷ codes "*" ∷ []) ∷ Rewrite (place_at (codes "a" ∷ codes "b" ∷ codes "n" ∷ []) (codes "a" ∷ codes "b" ∷ []) (codes "a" ∷ codes "b" ∷ codes "a" ∷ [])) true (codes "a" ∷ codes "c" ∷ codes "c" ∷ codes "b" ∷ codes "*" ∷ []) ∷ [];
-      leaf = leaves.Outside;
-    })
-walk_2 = refl
-
-no_walk_3 : walk_along (following_all config_5 3) (codes "a" ∷ codes "b" ∷ codes "b" ∷ codes "*" ∷ []) types.A (0 ∷ []) ≡ None
-no_walk_3 = refl
-
-no_walk_4 : walk_along (following_all config_5 3) (codes "a" ∷ codes "b" ∷ codes "b" ∷ codes "*" ∷ []) types.A (0 ∷ 0 ∷ 0 ∷ []) ≡ None
-no_walk_4 = refl
-
-no_walk_5 : walk_along (following_all config_5 3) (codes "a" ∷ codes "b" ∷ codes "b" ∷ codes "*" ∷ []) types.A (0 ∷ 1 ∷ []) ≡ None
-no_walk_5 = refl
-
-no_walk_6 : walk_along (following_all config_5 3) (codes "a" ∷ codes "b" ∷ codes "b" ∷ codes "*" ∷ []) types.A (1 ∷ 0 ∷ []) ≡ None
-no_walk_6 = refl
-
-no_walk_7 : walk_along (following_all config_5 3) (codes "a" ∷ codes "b" ∷ codes "b" ∷ codes "*" ∷ []) types.A (1 ∷ 0 ∷ 0 ∷ []) ≡ None
-no_walk_7 = refl
-
-no_walk_8 : walk_along (following_all config_5 3) (codes "a" ∷ codes "b" ∷ codes "b" ∷ codes "*" ∷ []) types.A (1 ∷ 0 ∷ 0 ∷ 0 ∷ 0 ∷ []) ≡ None
-no_walk_8 = refl
-
-no_walk_9 : walk_along (following_all config_5 3) (codes "a" ∷ codes "b" ∷ codes "b" ∷ codes "*" ∷ []) types.A (1 ∷ 0 ∷ 0 ∷ 1 ∷ []) ≡ None
-no_walk_9 = refl
-
-no_walk_10 : walk_along (following_all config_5 3) (codes "a" ∷ codes "b" ∷ codes "b" ∷ codes "*" ∷ []) types.A (1 ∷ 0 ∷ 1 ∷ []) ≡ None
-no_walk_10 = refl
-
-no_walk_11 : walk_along (following_all config_5 3) (codes "a" ∷ codes "b" ∷ codes "b" ∷ codes "*" ∷ []) types.A (1 ∷ 0 ∷ 1 ∷ 0 ∷ 0 ∷ []) ≡ None
-no_walk_11 = refl
-
-no_walk_12 : walk_along (following_all config_5 3) (codes "a" ∷ codes "b" ∷ codes "b" ∷ codes "*" ∷ []) types.A (1 ∷ 0 ∷ 1 ∷ 1 ∷ []) ≡ None
-no_walk_12 = refl
-
-no_walk_13 : walk_along (following_all config_5 3) (codes "a" ∷ codes "b" ∷ codes "b" ∷ codes "*" ∷ []) types.A (2 ∷ 0 ∷ 0 ∷ 0 ∷ []) ≡ None
-no_walk_13 = refl
-
-no_walk_14 : walk_along (following_all config_5 3) (codes "a" ∷ codes "b" ∷ codes "b" ∷ codes "*" ∷ []) types.A (2 ∷ 0 ∷ 1 ∷ 0 ∷ []) ≡ None
-no_walk_14 = refl
-
 abbrev zone_6_0 : Zone
 zone_6_0 =
     zone_at (codes "a" ∷ codes "b" ∷ [])
@@ -128,7 +79,7 @@ config_6 =
     (server_at (codes "x" ∷ codes "n" ∷ []) (zone_6_0 ∷ [])
     ∷ [])
 
-walk_15 : walk_along (following_all config_6 3) (codes "a" ∷ codes "b" ∷ codes "b" ∷ codes "b" ∷ codes "*" ∷ codes "b" ∷ codes "*" ∷ []) types.A (0 ∷ 0 ∷ [])
+walk_2 : walk_along (following_all config_6 3) (codes "a" ∷ codes "b" ∷ codes "b" ∷ codes "b" ∷ codes "*" ∷ codes "b" ∷ codes "*" ∷ []) types.A (0 ∷ 0 ∷ [])
     ≡ Some
     (record {
       states =
@@ -137,36 +88,10 @@ walk_15 : walk_along (following_all config_6 3) (codes "a" ∷ codes "b" ∷ cod
       hops = Refer (cut_at (codes "x" ∷ codes "n" ∷ []) (codes "a" ∷ codes "b" ∷ []) (codes "a" ∷ codes "b" ∷ codes "b" ∷ codes "b" ∷ codes "*" ∷ codes "b" ∷ []) (codes "a" ∷ codes "b" ∷ codes "a" ∷ [])) ∷ [];
       leaf = leaves.Unhosted (codes "a" ∷ codes "b" ∷ codes "a" ∷ []);
     })
-walk_15 = refl
+walk_2 = refl
 
-walk_16 : walk_along (following_all config_6 3) (codes "a" ∷ codes "b" ∷ codes "b" ∷ codes "b" ∷ codes "*" ∷ codes "b" ∷ codes "*" ∷ []) types.A (0 ∷ 1 ∷ [])
-    ≡ Some
-    (record {
-      states =
-          record { server = codes "x" ∷ codes "n" ∷ []; name = codes "a" ∷ codes "b" ∷ codes "b" ∷ codes "b" ∷ codes "*" ∷ codes "b" ∷ codes "*" ∷ []; carried = true; cut = 0; used = 0; last = None; zone = Some (codes "a" ∷ codes "b" ∷ []) }
-          ∷ [];
-      hops = Refer (cut_at (codes "x" ∷ codes "n" ∷ []) (codes "a" ∷ codes "b" ∷ []) (codes "a" ∷ codes "b" ∷ codes "b" ∷ codes "b" ∷ codes "*" ∷ codes "b" ∷ []) (codes "x" ∷ codes "n" ∷ [])) ∷ [];
-      leaf = leaves.Lame (codes "x" ∷ codes "n" ∷ []);
-    })
-walk_16 = refl
-
-no_walk_17 : walk_along (following_all config_6 3) (codes "a" ∷ codes "b" ∷ codes "b" ∷ codes "b" ∷ codes "*" ∷ codes "b" ∷ codes "*" ∷ []) types.A (0 ∷ []) ≡ None
-no_walk_17 = refl
-
-no_walk_18 : walk_along (following_all config_6 3) (codes "a" ∷ codes "b" ∷ codes "b" ∷ codes "b" ∷ codes "*" ∷ codes "b" ∷ codes "*" ∷ []) types.A (0 ∷ 0 ∷ 0 ∷ []) ≡ None
-no_walk_18 = refl
-
-no_walk_19 : walk_along (following_all config_6 3) (codes "a" ∷ codes "b" ∷ codes "b" ∷ codes "b" ∷ codes "*" ∷ codes "b" ∷ codes "*" ∷ []) types.A (0 ∷ 1 ∷ 0 ∷ []) ≡ None
-no_walk_19 = refl
-
-no_walk_20 : walk_along (following_all config_6 3) (codes "a" ∷ codes "b" ∷ codes "b" ∷ codes "b" ∷ codes "*" ∷ codes "b" ∷ codes "*" ∷ []) types.A (0 ∷ 2 ∷ []) ≡ None
-no_walk_20 = refl
-
-no_walk_21 : walk_along (following_all config_6 3) (codes "a" ∷ codes "b" ∷ codes "b" ∷ codes "b" ∷ codes "*" ∷ codes "b" ∷ codes "*" ∷ []) types.A (1 ∷ 0 ∷ []) ≡ None
-no_walk_21 = refl
-
-no_walk_22 : walk_along (following_all config_6 3) (codes "a" ∷ codes "b" ∷ codes "b" ∷ codes "b" ∷ codes "*" ∷ codes "b" ∷ codes "*" ∷ []) types.A (1 ∷ 1 ∷ []) ≡ None
-no_walk_22 = refl
+no_walk_3 : walk_along (following_all config_6 3) (codes "a" ∷ codes "b" ∷ codes "b" ∷ codes "b" ∷ codes "*" ∷ codes "b" ∷ codes "*" ∷ []) types.A (0 ∷ []) ≡ None
+no_walk_3 = refl
 
 abbrev zone_7_0 : Zone
 zone_7_0 =
@@ -186,7 +111,7 @@ config_7 =
     (server_at (codes "a" ∷ codes "c" ∷ codes "a" ∷ []) (zone_7_0 ∷ [])
     ∷ [])
 
-walk_23 : walk_along (following_all config_7 3) (codes "a" ∷ codes "c" ∷ codes "a" ∷ codes "c" ∷ codes "c" ∷ []) types.Ns (0 ∷ 0 ∷ 0 ∷ [])
+walk_4 : walk_along (following_all config_7 3) (codes "a" ∷ codes "c" ∷ codes "a" ∷ codes "c" ∷ codes "c" ∷ []) types.Ns (0 ∷ 0 ∷ 0 ∷ [])
     ≡ Some
     (record {
       states =
@@ -196,19 +121,10 @@ walk_23 : walk_along (following_all config_7 3) (codes "a" ∷ codes "c" ∷ cod
       hops = Rewrite (place_at (codes "a" ∷ codes "c" ∷ codes "a" ∷ []) (codes "a" ∷ codes "c" ∷ []) (codes "a" ∷ codes "c" ∷ codes "a" ∷ codes "c" ∷ codes "c" ∷ [])) false (codes "a" ∷ codes "c" ∷ codes "c" ∷ codes "c" ∷ codes "b" ∷ []) ∷ Refer (cut_at (codes "a" ∷ codes "c" ∷ codes "a" ∷ []) (codes "a" ∷ codes "c" ∷ []) (codes "a" ∷ codes "c" ∷ codes "c" ∷ []) (codes "a" ∷ codes "c" ∷ codes "a" ∷ [])) ∷ [];
       leaf = leaves.Lame (codes "a" ∷ codes "c" ∷ codes "a" ∷ []);
     })
-walk_23 = refl
+walk_4 = refl
 
-no_walk_24 : walk_along (following_all config_7 3) (codes "a" ∷ codes "c" ∷ codes "a" ∷ codes "c" ∷ codes "c" ∷ []) types.Ns (0 ∷ 0 ∷ []) ≡ None
-no_walk_24 = refl
-
-no_walk_25 : walk_along (following_all config_7 3) (codes "a" ∷ codes "c" ∷ codes "a" ∷ codes "c" ∷ codes "c" ∷ []) types.Ns (0 ∷ 0 ∷ 0 ∷ 0 ∷ []) ≡ None
-no_walk_25 = refl
-
-no_walk_26 : walk_along (following_all config_7 3) (codes "a" ∷ codes "c" ∷ codes "a" ∷ codes "c" ∷ codes "c" ∷ []) types.Ns (0 ∷ 0 ∷ 1 ∷ []) ≡ None
-no_walk_26 = refl
-
-no_walk_27 : walk_along (following_all config_7 3) (codes "a" ∷ codes "c" ∷ codes "a" ∷ codes "c" ∷ codes "c" ∷ []) types.Ns (1 ∷ 0 ∷ 0 ∷ []) ≡ None
-no_walk_27 = refl
+no_walk_5 : walk_along (following_all config_7 3) (codes "a" ∷ codes "c" ∷ codes "a" ∷ codes "c" ∷ codes "c" ∷ []) types.Ns (0 ∷ 0 ∷ []) ≡ None
+no_walk_5 = refl
 
 abbrev zone_8_0 : Zone
 zone_8_0 =
@@ -230,7 +146,7 @@ config_8 =
     (server_at (codes "a" ∷ codes "m" ∷ []) (zone_8_0 ∷ [])
     ∷ [])
 
-walk_28 : walk_along (following_all config_8 3) (codes "a" ∷ codes "b" ∷ codes "c" ∷ []) types.A (0 ∷ 0 ∷ 0 ∷ 0 ∷ [])
+walk_6 : walk_along (following_all config_8 3) (codes "a" ∷ codes "b" ∷ codes "c" ∷ []) types.A (0 ∷ 0 ∷ 0 ∷ 0 ∷ [])
     ≡ Some
     (record {
       states =
@@ -242,19 +158,7 @@ walk_28 : walk_along (following_all config_8 3) (codes "a" ∷ codes "b" ∷ cod
       leaf = leaves.Answer (A (10 ∷ 0 ∷ 0 ∷ 4 ∷ []) ∷ []);
     })
 unfolding digits
-walk_28 = refl
-
-no_walk_29 : walk_along (following_all config_8 3) (codes "a" ∷ codes "b" ∷ codes "c" ∷ []) types.A (0 ∷ 0 ∷ 0 ∷ []) ≡ None
-no_walk_29 = refl
-
-no_walk_30 : walk_along (following_all config_8 3) (codes "a" ∷ codes "b" ∷ codes "c" ∷ []) types.A (0 ∷ 0 ∷ 0 ∷ 0 ∷ 0 ∷ []) ≡ None
-no_walk_30 = refl
-
-no_walk_31 : walk_along (following_all config_8 3) (codes "a" ∷ codes "b" ∷ codes "c" ∷ []) types.A (0 ∷ 0 ∷ 0 ∷ 1 ∷ []) ≡ None
-no_walk_31 = refl
-
-no_walk_32 : walk_along (following_all config_8 3) (codes "a" ∷ codes "b" ∷ codes "c" ∷ []) types.A (1 ∷ 0 ∷ 0 ∷ 0 ∷ []) ≡ None
-no_walk_32 = refl
+walk_6 = refl
 
 abbrev zone_9_0 : Zone
 zone_9_0 =
@@ -281,7 +185,7 @@ config_9 =
     (server_at (codes "b" ∷ codes "b" ∷ codes "n" ∷ []) (zone_9_0 ∷ zone_9_1 ∷ [])
     ∷ [])
 
-walk_33 : walk_along (following_all config_9 3) (codes "b" ∷ codes "b" ∷ codes "a" ∷ codes "a" ∷ codes "b" ∷ []) types.A (0 ∷ 0 ∷ 0 ∷ 0 ∷ [])
+walk_7 : walk_along (following_all config_9 3) (codes "b" ∷ codes "b" ∷ codes "a" ∷ codes "a" ∷ codes "b" ∷ []) types.A (0 ∷ 0 ∷ 0 ∷ 0 ∷ [])
     ≡ Some
     (record {
       states =
@@ -292,16 +196,4 @@ walk_33 : walk_along (following_all config_9 3) (codes "b" ∷ codes "b" ∷ cod
       hops = Rewrite (place_at (codes "b" ∷ codes "b" ∷ codes "n" ∷ []) (codes "b" ∷ codes "b" ∷ []) (codes "b" ∷ codes "b" ∷ [])) true (codes "b" ∷ codes "b" ∷ replicate 59 121 ∷ replicate 59 120 ∷ codes "a" ∷ codes "a" ∷ codes "b" ∷ []) ∷ Rewrite (place_at (codes "b" ∷ codes "b" ∷ codes "n" ∷ []) (codes "b" ∷ codes "b" ∷ []) (codes "b" ∷ codes "b" ∷ [])) true (codes "b" ∷ codes "b" ∷ replicate 59 121 ∷ replicate 59 120 ∷ replicate 59 121 ∷ replicate 59 120 ∷ codes "a" ∷ codes "a" ∷ codes "b" ∷ []) ∷ [];
       leaf = leaves.Overlong (place_at (codes "b" ∷ codes "b" ∷ codes "n" ∷ []) (codes "b" ∷ codes "b" ∷ []) (codes "b" ∷ codes "b" ∷ []));
     })
-walk_33 = refl
-
-no_walk_34 : walk_along (following_all config_9 3) (codes "b" ∷ codes "b" ∷ codes "a" ∷ codes "a" ∷ codes "b" ∷ []) types.A (0 ∷ 0 ∷ 0 ∷ []) ≡ None
-no_walk_34 = refl
-
-no_walk_35 : walk_along (following_all config_9 3) (codes "b" ∷ codes "b" ∷ codes "a" ∷ codes "a" ∷ codes "b" ∷ []) types.A (0 ∷ 0 ∷ 0 ∷ 0 ∷ 0 ∷ []) ≡ None
-no_walk_35 = refl
-
-no_walk_36 : walk_along (following_all config_9 3) (codes "b" ∷ codes "b" ∷ codes "a" ∷ codes "a" ∷ codes "b" ∷ []) types.A (0 ∷ 0 ∷ 0 ∷ 1 ∷ []) ≡ None
-no_walk_36 = refl
-
-no_walk_37 : walk_along (following_all config_9 3) (codes "b" ∷ codes "b" ∷ codes "a" ∷ codes "a" ∷ codes "b" ∷ []) types.A (1 ∷ 0 ∷ 0 ∷ 0 ∷ []) ≡ None
-no_walk_37 = refl
+walk_7 = refl

@@ -1,7 +1,6 @@
 -- Walks drawn at random with their unnamed labels replaced: they are the walks of the other query.
 use Rattle.std.specs.Prelude.{◌≡◌, refl, true, [], ◌∷◌, codes, Some, None, option_map}
-use Rattle.std.specs.Fmt.{digits}
-use Rattle.dns_data.specs.declared.rdata.Rdata.TheVariants.{A, Ns, Cname, Soa, Ptr, Hinfo, Srv, Dname, Caa, Other}
+use Rattle.dns_data.specs.declared.rdata.Rdata.TheVariants.{A, Ns, Cname, Soa, Ptr, Dname, Caa}
 use Rattle.net_model.specs.declared.config.Config.{Config}
 use Rattle.net_model.specs.declared.config.Zone.{Zone}
 use Rattle.net_model.specs.declared.walk.Hop.TheVariants.{Rewrite}
@@ -28,12 +27,7 @@ config_0 =
     (server_at (codes "x" ∷ codes "a" ∷ codes "n" ∷ []) (zone_0_0 ∷ [])
     ∷ [])
 
-retailed_0 : option_map (retail 2 (codes "b" ∷ []))
-    (walk_along (following_all config_0 3) (codes "a" ∷ codes "c" ∷ codes "a" ∷ codes "b" ∷ codes "b" ∷ []) types.Txt (0 ∷ 0 ∷ 0 ∷ []))
-    ≡ walk_along (following_all config_0 3) (codes "a" ∷ codes "c" ∷ codes "a" ∷ codes "b" ∷ []) types.Txt (0 ∷ 0 ∷ 0 ∷ [])
-retailed_0 = refl
-
-retailed_1 : walk_along (following_all config_0 3) (codes "a" ∷ codes "c" ∷ codes "a" ∷ codes "b" ∷ []) types.Txt (0 ∷ 0 ∷ 0 ∷ [])
+retailed_0 : walk_along (following_all config_0 3) (codes "a" ∷ codes "c" ∷ codes "a" ∷ codes "b" ∷ []) types.Txt (0 ∷ 0 ∷ 0 ∷ [])
     ≡ Some
     (record {
       states =
@@ -43,7 +37,7 @@ retailed_1 : walk_along (following_all config_0 3) (codes "a" ∷ codes "c" ∷ 
       hops = Rewrite (place_at (codes "x" ∷ codes "a" ∷ codes "n" ∷ []) [] (codes "a" ∷ codes "c" ∷ codes "a" ∷ [])) true (codes "c" ∷ codes "b" ∷ codes "b" ∷ []) ∷ [];
       leaf = leaves.NxDomain;
     })
-retailed_1 = refl
+retailed_0 = refl
 
 abbrev zone_1_0 : Zone
 zone_1_0 =
@@ -61,13 +55,7 @@ config_1 =
     (server_at (codes "c" ∷ codes "m" ∷ []) (zone_1_0 ∷ [])
     ∷ [])
 
-retailed_2 : option_map (retail 1 (codes "a" ∷ []))
-    (walk_along (following_all config_1 3) (codes "c" ∷ codes "d" ∷ codes "*" ∷ codes "b" ∷ []) types.A (0 ∷ 0 ∷ 0 ∷ 0 ∷ []))
-    ≡ walk_along (following_all config_1 3) (codes "c" ∷ codes "d" ∷ codes "*" ∷ codes "a" ∷ []) types.A (0 ∷ 0 ∷ 0 ∷ 0 ∷ [])
-unfolding digits
-retailed_2 = refl
-
-retailed_3 : walk_along (following_all config_1 3) (codes "c" ∷ codes "d" ∷ codes "*" ∷ codes "a" ∷ []) types.A (0 ∷ 0 ∷ 0 ∷ 0 ∷ [])
+retailed_1 : walk_along (following_all config_1 3) (codes "c" ∷ codes "d" ∷ codes "*" ∷ codes "a" ∷ []) types.A (0 ∷ 0 ∷ 0 ∷ 0 ∷ [])
     ≡ Some
     (record {
       states =
@@ -78,140 +66,7 @@ retailed_3 : walk_along (following_all config_1 3) (codes "c" ∷ codes "d" ∷ 
       hops = Rewrite (place_at (codes "c" ∷ codes "m" ∷ []) (codes "c" ∷ []) (codes "c" ∷ codes "d" ∷ [])) true (codes "c" ∷ codes "c" ∷ codes "c" ∷ codes "*" ∷ codes "a" ∷ []) ∷ Rewrite (place_at (codes "c" ∷ codes "m" ∷ []) (codes "c" ∷ []) (codes "c" ∷ codes "c" ∷ [])) true (codes "c" ∷ codes "b" ∷ codes "c" ∷ codes "*" ∷ codes "a" ∷ []) ∷ [];
       leaf = leaves.NxDomain;
     })
-retailed_3 = refl
-
-abbrev zone_2_0 : Zone
-zone_2_0 =
-    zone_at (codes "b" ∷ codes "c" ∷ codes "a" ∷ [])
-    (rr (codes "b" ∷ codes "c" ∷ codes "a" ∷ []) (Soa (codes "b" ∷ codes "c" ∷ codes "b" ∷ codes "m" ∷ []) (codes "h" ∷ []) 1 7200 3 4 60)
-    ∷ rr (codes "b" ∷ codes "c" ∷ codes "a" ∷ []) (Ns (codes "b" ∷ codes "c" ∷ codes "b" ∷ codes "m" ∷ []))
-    ∷ rr (codes "b" ∷ codes "c" ∷ codes "a" ∷ codes "a" ∷ codes "d" ∷ []) (Dname (codes "b" ∷ codes "c" ∷ codes "a" ∷ codes "a" ∷ codes "b" ∷ codes "c" ∷ []))
-    ∷ rr (codes "b" ∷ codes "c" ∷ codes "a" ∷ codes "a" ∷ codes "b" ∷ []) (Dname (codes "b" ∷ codes "c" ∷ codes "a" ∷ codes "a" ∷ codes "c" ∷ []))
-    ∷ rr (codes "b" ∷ codes "c" ∷ codes "a" ∷ codes "a" ∷ codes "c" ∷ codes "c" ∷ codes "c" ∷ []) (A (10 ∷ 0 ∷ 0 ∷ 4 ∷ []))
-    ∷ [])
-
-abbrev zone_2_1 : Zone
-zone_2_1 =
-    zone_at (codes "b" ∷ codes "c" ∷ [])
-    (rr (codes "b" ∷ codes "c" ∷ codes "a" ∷ []) (Ns (codes "b" ∷ codes "c" ∷ codes "b" ∷ codes "m" ∷ []))
-    ∷ rr (codes "b" ∷ codes "c" ∷ codes "b" ∷ codes "m" ∷ []) (A (10 ∷ 0 ∷ 0 ∷ 1 ∷ []))
-    ∷ rr (codes "b" ∷ codes "c" ∷ []) (Soa (codes "b" ∷ codes "c" ∷ codes "b" ∷ codes "m" ∷ []) (codes "h" ∷ []) 1 7200 3 4 60)
-    ∷ rr (codes "b" ∷ codes "c" ∷ []) (Hinfo (codes "pc") (108 ∷ 105 ∷ 32 ∷ 110 ∷ 117 ∷ 120 ∷ []))
-    ∷ rr (codes "b" ∷ codes "c" ∷ codes "c" ∷ []) (Other (codes "DS") (codes "1" ∷ codes "2" ∷ codes "3" ∷ codes "abcd" ∷ []))
-    ∷ [])
-
-abbrev config_2 : Config
-config_2 =
-    with_tops ((codes "b" ∷ codes "c" ∷ codes "b" ∷ codes "m" ∷ []) ∷ [])
-    (server_at (codes "b" ∷ codes "c" ∷ codes "b" ∷ codes "m" ∷ []) (zone_2_0 ∷ zone_2_1 ∷ [])
-    ∷ [])
-
-retailed_4 : option_map (retail 1 (codes "a" ∷ []))
-    (walk_along (following_all config_2 3) (codes "b" ∷ codes "c" ∷ codes "a" ∷ codes "a" ∷ codes "d" ∷ codes "b" ∷ []) types.Txt (0 ∷ 0 ∷ 0 ∷ 0 ∷ []))
-    ≡ walk_along (following_all config_2 3) (codes "b" ∷ codes "c" ∷ codes "a" ∷ codes "a" ∷ codes "d" ∷ codes "a" ∷ []) types.Txt (0 ∷ 0 ∷ 0 ∷ 0 ∷ [])
-retailed_4 = refl
-
-retailed_5 : walk_along (following_all config_2 3) (codes "b" ∷ codes "c" ∷ codes "a" ∷ codes "a" ∷ codes "d" ∷ codes "a" ∷ []) types.Txt (0 ∷ 0 ∷ 0 ∷ 0 ∷ [])
-    ≡ Some
-    (record {
-      states =
-          record { server = codes "b" ∷ codes "c" ∷ codes "b" ∷ codes "m" ∷ []; name = codes "b" ∷ codes "c" ∷ codes "a" ∷ codes "a" ∷ codes "d" ∷ codes "a" ∷ []; carried = true; cut = 0; used = 0; last = None; zone = Some (codes "b" ∷ codes "c" ∷ codes "a" ∷ []) }
-          ∷ record { server = codes "b" ∷ codes "c" ∷ codes "b" ∷ codes "m" ∷ []; name = codes "b" ∷ codes "c" ∷ codes "a" ∷ codes "a" ∷ codes "b" ∷ codes "c" ∷ codes "a" ∷ []; carried = true; cut = 0; used = 1; last = Some (place_at (codes "b" ∷ codes "c" ∷ codes "b" ∷ codes "m" ∷ []) (codes "b" ∷ codes "c" ∷ codes "a" ∷ []) (codes "b" ∷ codes "c" ∷ codes "a" ∷ codes "a" ∷ codes "d" ∷ [])); zone = Some (codes "b" ∷ codes "c" ∷ codes "a" ∷ []) }
-          ∷ record { server = codes "b" ∷ codes "c" ∷ codes "b" ∷ codes "m" ∷ []; name = codes "b" ∷ codes "c" ∷ codes "a" ∷ codes "a" ∷ codes "c" ∷ codes "c" ∷ codes "a" ∷ []; carried = true; cut = 0; used = 2; last = Some (place_at (codes "b" ∷ codes "c" ∷ codes "b" ∷ codes "m" ∷ []) (codes "b" ∷ codes "c" ∷ codes "a" ∷ []) (codes "b" ∷ codes "c" ∷ codes "a" ∷ codes "a" ∷ codes "b" ∷ [])); zone = Some (codes "b" ∷ codes "c" ∷ codes "a" ∷ []) }
-          ∷ [];
-      hops = Rewrite (place_at (codes "b" ∷ codes "c" ∷ codes "b" ∷ codes "m" ∷ []) (codes "b" ∷ codes "c" ∷ codes "a" ∷ []) (codes "b" ∷ codes "c" ∷ codes "a" ∷ codes "a" ∷ codes "d" ∷ [])) true (codes "b" ∷ codes "c" ∷ codes "a" ∷ codes "a" ∷ codes "b" ∷ codes "c" ∷ codes "a" ∷ []) ∷ Rewrite (place_at (codes "b" ∷ codes "c" ∷ codes "b" ∷ codes "m" ∷ []) (codes "b" ∷ codes "c" ∷ codes "a" ∷ []) (codes "b" ∷ codes "c" ∷ codes "a" ∷ codes "a" ∷ codes "b" ∷ [])) true (codes "b" ∷ codes "c" ∷ codes "a" ∷ codes "a" ∷ codes "c" ∷ codes "c" ∷ codes "a" ∷ []) ∷ [];
-      leaf = leaves.NxDomain;
-    })
-retailed_5 = refl
-
-abbrev zone_3_0 : Zone
-zone_3_0 =
-    zone_at (codes "a" ∷ [])
-    (rr (codes "a" ∷ []) (Ns (codes "a" ∷ codes "c" ∷ codes "n" ∷ []))
-    ∷ rr (codes "a" ∷ codes "a" ∷ []) (Cname (codes "a" ∷ codes "a" ∷ []))
-    ∷ rr (codes "a" ∷ codes "b" ∷ codes "a" ∷ codes "b" ∷ []) (Cname (codes "a" ∷ codes "c" ∷ []))
-    ∷ rr (codes "a" ∷ codes "b" ∷ []) (Dname (codes "a" ∷ codes "c" ∷ []))
-    ∷ rr (codes "a" ∷ codes "c" ∷ codes "a" ∷ codes "c" ∷ []) (A (10 ∷ 0 ∷ 0 ∷ 4 ∷ []))
-    ∷ rr (codes "a" ∷ []) (Soa (codes "a" ∷ codes "c" ∷ codes "n" ∷ []) (codes "h" ∷ []) 1 7200 3 4 60)
-    ∷ [])
-
-abbrev zone_3_1 : Zone
-zone_3_1 =
-    zone_at (codes "a" ∷ codes "c" ∷ [])
-    (rr (codes "a" ∷ codes "c" ∷ []) (Soa (codes "a" ∷ codes "c" ∷ codes "n" ∷ []) (codes "h" ∷ []) 1 7200 3 4 60)
-    ∷ rr (codes "a" ∷ codes "c" ∷ []) (Ns (codes "a" ∷ codes "c" ∷ codes "n" ∷ []))
-    ∷ rr (codes "a" ∷ codes "c" ∷ codes "n" ∷ []) (A (10 ∷ 0 ∷ 0 ∷ 3 ∷ []))
-    ∷ rr (codes "a" ∷ codes "c" ∷ codes "c" ∷ codes "*" ∷ codes "*" ∷ []) (Srv 0 1 2 (codes "a" ∷ codes "c" ∷ codes "c" ∷ []))
-    ∷ [])
-
-abbrev config_3 : Config
-config_3 =
-    with_tops ((codes "a" ∷ codes "c" ∷ codes "n" ∷ []) ∷ [])
-    (server_at (codes "a" ∷ codes "c" ∷ codes "n" ∷ []) (zone_3_0 ∷ zone_3_1 ∷ [])
-    ∷ [])
-
-retailed_6 : option_map (retail 2 (codes "a" ∷ []))
-    (walk_along (following_all config_3 3) (codes "a" ∷ codes "b" ∷ codes "a" ∷ codes "b" ∷ codes "www" ∷ codes "b" ∷ []) types.A (0 ∷ 0 ∷ 0 ∷ []))
-    ≡ walk_along (following_all config_3 3) (codes "a" ∷ codes "b" ∷ codes "a" ∷ codes "b" ∷ codes "a" ∷ []) types.A (0 ∷ 0 ∷ 0 ∷ [])
-unfolding digits
-retailed_6 = refl
-
-retailed_7 : walk_along (following_all config_3 3) (codes "a" ∷ codes "b" ∷ codes "a" ∷ codes "b" ∷ codes "a" ∷ []) types.A (0 ∷ 0 ∷ 0 ∷ [])
-    ≡ Some
-    (record {
-      states =
-          record { server = codes "a" ∷ codes "c" ∷ codes "n" ∷ []; name = codes "a" ∷ codes "b" ∷ codes "a" ∷ codes "b" ∷ codes "a" ∷ []; carried = true; cut = 0; used = 0; last = None; zone = Some (codes "a" ∷ []) }
-          ∷ record { server = codes "a" ∷ codes "c" ∷ codes "n" ∷ []; name = codes "a" ∷ codes "c" ∷ codes "a" ∷ codes "b" ∷ codes "a" ∷ []; carried = true; cut = 0; used = 1; last = Some (place_at (codes "a" ∷ codes "c" ∷ codes "n" ∷ []) (codes "a" ∷ []) (codes "a" ∷ codes "b" ∷ [])); zone = Some (codes "a" ∷ codes "c" ∷ []) }
-          ∷ [];
-      hops = Rewrite (place_at (codes "a" ∷ codes "c" ∷ codes "n" ∷ []) (codes "a" ∷ []) (codes "a" ∷ codes "b" ∷ [])) true (codes "a" ∷ codes "c" ∷ codes "a" ∷ codes "b" ∷ codes "a" ∷ []) ∷ [];
-      leaf = leaves.NxDomain;
-    })
-retailed_7 = refl
-
-abbrev zone_4_0 : Zone
-zone_4_0 =
-    zone_at (codes "a" ∷ (98 ∷ 59 ∷ 99 ∷ []) ∷ codes "c" ∷ [])
-    (rr (codes "a" ∷ (98 ∷ 59 ∷ 99 ∷ []) ∷ codes "c" ∷ codes "b" ∷ []) (A (10 ∷ 0 ∷ 0 ∷ 1 ∷ []))
-    ∷ rr (codes "a" ∷ (98 ∷ 59 ∷ 99 ∷ []) ∷ codes "c" ∷ codes "c" ∷ codes "b" ∷ codes "c" ∷ []) (Hinfo (codes "pc") (108 ∷ 105 ∷ 32 ∷ 110 ∷ 117 ∷ 120 ∷ []))
-    ∷ rr (codes "a" ∷ (98 ∷ 59 ∷ 99 ∷ []) ∷ codes "c" ∷ codes "a" ∷ []) (Hinfo (codes "pc") (108 ∷ 105 ∷ 32 ∷ 110 ∷ 117 ∷ 120 ∷ []))
-    ∷ rr (codes "a" ∷ (98 ∷ 59 ∷ 99 ∷ []) ∷ codes "c" ∷ []) (Other (codes "TYPE65534") ((92 ∷ 35 ∷ []) ∷ codes "2" ∷ codes "08" ∷ codes "00" ∷ []))
-    ∷ rr (codes "a" ∷ (98 ∷ 59 ∷ 99 ∷ []) ∷ codes "c" ∷ codes "a" ∷ (98 ∷ 59 ∷ 99 ∷ []) ∷ codes "b" ∷ codes "a" ∷ []) (Dname (codes "a" ∷ (98 ∷ 59 ∷ 99 ∷ []) ∷ codes "c" ∷ codes "a" ∷ codes "a" ∷ codes "*" ∷ codes "a" ∷ codes "c" ∷ []))
-    ∷ rr (codes "a" ∷ (98 ∷ 59 ∷ 99 ∷ []) ∷ codes "c" ∷ []) (Soa (codes "a" ∷ (98 ∷ 59 ∷ 99 ∷ []) ∷ codes "c" ∷ codes "b" ∷ []) (codes "h" ∷ []) 1 7200 3 4 60)
-    ∷ rr (codes "a" ∷ (98 ∷ 59 ∷ 99 ∷ []) ∷ codes "c" ∷ codes "a" ∷ codes "a" ∷ codes "*" ∷ codes "a" ∷ codes "c" ∷ codes "a" ∷ []) (A (10 ∷ 0 ∷ 0 ∷ 2 ∷ []))
-    ∷ [])
-
-abbrev zone_4_1 : Zone
-zone_4_1 =
-    zone_at (codes "a" ∷ (98 ∷ 59 ∷ 99 ∷ []) ∷ codes "c" ∷ codes "a" ∷ [])
-    (rr (codes "a" ∷ (98 ∷ 59 ∷ 99 ∷ []) ∷ codes "c" ∷ codes "a" ∷ []) (Soa (codes "a" ∷ (98 ∷ 59 ∷ 99 ∷ []) ∷ codes "c" ∷ codes "b" ∷ []) (codes "h" ∷ []) 1 7200 3 4 60)
-    ∷ rr (codes "a" ∷ (98 ∷ 59 ∷ 99 ∷ []) ∷ codes "c" ∷ codes "a" ∷ []) (Ns (codes "a" ∷ (98 ∷ 59 ∷ 99 ∷ []) ∷ codes "c" ∷ codes "b" ∷ []))
-    ∷ rr (codes "a" ∷ (98 ∷ 59 ∷ 99 ∷ []) ∷ codes "c" ∷ codes "a" ∷ codes "b" ∷ []) (Dname (codes "a" ∷ (98 ∷ 59 ∷ 99 ∷ []) ∷ codes "c" ∷ codes "a" ∷ codes "b" ∷ []))
-    ∷ [])
-
-abbrev config_4 : Config
-config_4 =
-    with_tops ((codes "a" ∷ (98 ∷ 59 ∷ 99 ∷ []) ∷ codes "c" ∷ codes "b" ∷ []) ∷ [])
-    (server_at (codes "a" ∷ (98 ∷ 59 ∷ 99 ∷ []) ∷ codes "c" ∷ codes "b" ∷ []) (zone_4_0 ∷ zone_4_1 ∷ [])
-    ∷ [])
-
-retailed_8 : option_map (retail 2 (codes "a" ∷ []))
-    (walk_along (following_all config_4 3) (codes "a" ∷ (98 ∷ 59 ∷ 99 ∷ []) ∷ codes "c" ∷ codes "a" ∷ codes "b" ∷ codes "*" ∷ codes "*" ∷ []) types.Txt (0 ∷ 0 ∷ 0 ∷ 0 ∷ 0 ∷ []))
-    ≡ walk_along (following_all config_4 3) (codes "a" ∷ (98 ∷ 59 ∷ 99 ∷ []) ∷ codes "c" ∷ codes "a" ∷ codes "b" ∷ codes "a" ∷ []) types.Txt (0 ∷ 0 ∷ 0 ∷ 0 ∷ 0 ∷ [])
-retailed_8 = refl
-
-retailed_9 : walk_along (following_all config_4 3) (codes "a" ∷ (98 ∷ 59 ∷ 99 ∷ []) ∷ codes "c" ∷ codes "a" ∷ codes "b" ∷ codes "a" ∷ []) types.Txt (0 ∷ 0 ∷ 0 ∷ 0 ∷ 0 ∷ [])
-    ≡ Some
-    (record {
-      states =
-          record { server = codes "a" ∷ (98 ∷ 59 ∷ 99 ∷ []) ∷ codes "c" ∷ codes "b" ∷ []; name = codes "a" ∷ (98 ∷ 59 ∷ 99 ∷ []) ∷ codes "c" ∷ codes "a" ∷ codes "b" ∷ codes "a" ∷ []; carried = true; cut = 0; used = 0; last = None; zone = Some (codes "a" ∷ (98 ∷ 59 ∷ 99 ∷ []) ∷ codes "c" ∷ codes "a" ∷ []) }
-          ∷ record { server = codes "a" ∷ (98 ∷ 59 ∷ 99 ∷ []) ∷ codes "c" ∷ codes "b" ∷ []; name = codes "a" ∷ (98 ∷ 59 ∷ 99 ∷ []) ∷ codes "c" ∷ codes "a" ∷ codes "b" ∷ codes "a" ∷ []; carried = true; cut = 0; used = 1; last = Some (place_at (codes "a" ∷ (98 ∷ 59 ∷ 99 ∷ []) ∷ codes "c" ∷ codes "b" ∷ []) (codes "a" ∷ (98 ∷ 59 ∷ 99 ∷ []) ∷ codes "c" ∷ codes "a" ∷ []) (codes "a" ∷ (98 ∷ 59 ∷ 99 ∷ []) ∷ codes "c" ∷ codes "a" ∷ codes "b" ∷ [])); zone = Some (codes "a" ∷ (98 ∷ 59 ∷ 99 ∷ []) ∷ codes "c" ∷ codes "a" ∷ []) }
-          ∷ record { server = codes "a" ∷ (98 ∷ 59 ∷ 99 ∷ []) ∷ codes "c" ∷ codes "b" ∷ []; name = codes "a" ∷ (98 ∷ 59 ∷ 99 ∷ []) ∷ codes "c" ∷ codes "a" ∷ codes "b" ∷ codes "a" ∷ []; carried = true; cut = 0; used = 2; last = Some (place_at (codes "a" ∷ (98 ∷ 59 ∷ 99 ∷ []) ∷ codes "c" ∷ codes "b" ∷ []) (codes "a" ∷ (98 ∷ 59 ∷ 99 ∷ []) ∷ codes "c" ∷ codes "a" ∷ []) (codes "a" ∷ (98 ∷ 59 ∷ 99 ∷ []) ∷ codes "c" ∷ codes "a" ∷ codes "b" ∷ [])); zone = Some (codes "a" ∷ (98 ∷ 59 ∷ 99 ∷ []) ∷ codes "c" ∷ codes "a" ∷ []) }
-          ∷ record { server = codes "a" ∷ (98 ∷ 59 ∷ 99 ∷ []) ∷ codes "c" ∷ codes "b" ∷ []; name = codes "a" ∷ (98 ∷ 59 ∷ 99 ∷ []) ∷ codes "c" ∷ codes "a" ∷ codes "b" ∷ codes "a" ∷ []; carried = true; cut = 0; used = 3; last = Some (place_at (codes "a" ∷ (98 ∷ 59 ∷ 99 ∷ []) ∷ codes "c" ∷ codes "b" ∷ []) (codes "a" ∷ (98 ∷ 59 ∷ 99 ∷ []) ∷ codes "c" ∷ codes "a" ∷ []) (codes "a" ∷ (98 ∷ 59 ∷ 99 ∷ []) ∷ codes "c" ∷ codes "a" ∷ codes "b" ∷ [])); zone = Some (codes "a" ∷ (98 ∷ 59 ∷ 99 ∷ []) ∷ codes "c" ∷ codes "a" ∷ []) }
-          ∷ [];
-      hops = Rewrite (place_at (codes "a" ∷ (98 ∷ 59 ∷ 99 ∷ []) ∷ codes "c" ∷ codes "b" ∷ []) (codes "a" ∷ (98 ∷ 59 ∷ 99 ∷ []) ∷ codes "c" ∷ codes "a" ∷ []) (codes "a" ∷ (98 ∷ 59 ∷ 99 ∷ []) ∷ codes "c" ∷ codes "a" ∷ codes "b" ∷ [])) true (codes "a" ∷ (98 ∷ 59 ∷ 99 ∷ []) ∷ codes "c" ∷ codes "a" ∷ codes "b" ∷ codes "a" ∷ []) ∷ Rewrite (place_at (codes "a" ∷ (98 ∷ 59 ∷ 99 ∷ []) ∷ codes "c" ∷ codes "b" ∷ []) (codes "a" ∷ (98 ∷ 59 ∷ 99 ∷ []) ∷ codes "c" ∷ codes "a" ∷ []) (codes "a" ∷ (98 ∷ 59 ∷ 99 ∷ []) ∷ codes "c" ∷ codes "a" ∷ codes "b" ∷ [])) true (codes "a" ∷ (98 ∷ 59 ∷ 99 ∷ []) ∷ codes "c" ∷ codes "a" ∷ codes "b" ∷ codes "a" ∷ []) ∷ Rewrite (place_at (codes "a" ∷ (98 ∷ 59 ∷ 99 ∷ []) ∷ codes "c" ∷ codes "b" ∷ []) (codes "a" ∷ (98 ∷ 59 ∷ 99 ∷ []) ∷ codes "c" ∷ codes "a" ∷ []) (codes "a" ∷ (98 ∷ 59 ∷ 99 ∷ []) ∷ codes "c" ∷ codes "a" ∷ codes "b" ∷ [])) true (codes "a" ∷ (98 ∷ 59 ∷ 99 ∷ []) ∷ codes "c" ∷ codes "a" ∷ codes "b" ∷ codes "a" ∷ []) ∷ [];
-      leaf = leaves.Limit (place_at (codes "a" ∷ (98 ∷ 59 ∷ 99 ∷ []) ∷ codes "c" ∷ codes "b" ∷ []) (codes "a" ∷ (98 ∷ 59 ∷ 99 ∷ []) ∷ codes "c" ∷ codes "a" ∷ []) (codes "a" ∷ (98 ∷ 59 ∷ 99 ∷ []) ∷ codes "c" ∷ codes "a" ∷ codes "b" ∷ []));
-    })
-retailed_9 = refl
+retailed_1 = refl
 
 abbrev zone_5_0 : Zone
 zone_5_0 =
@@ -235,12 +90,12 @@ config_5 =
     (server_at (codes "b" ∷ codes "b" ∷ codes "b" ∷ []) (zone_5_0 ∷ [])
     ∷ [])
 
-retailed_10 : option_map (retail 2 (codes "c" ∷ []))
+retailed_2 : option_map (retail 2 (codes "c" ∷ []))
     (walk_along (following_all config_5 3) (codes "b" ∷ codes "b" ∷ codes "c" ∷ codes "*" ∷ codes "c" ∷ []) types.Txt (0 ∷ 0 ∷ 0 ∷ 0 ∷ 0 ∷ []))
     ≡ walk_along (following_all config_5 3) (codes "b" ∷ codes "b" ∷ codes "c" ∷ codes "c" ∷ []) types.Txt (0 ∷ 0 ∷ 0 ∷ 0 ∷ 0 ∷ [])
-retailed_10 = refl
+retailed_2 = refl
 
-retailed_11 : walk_along (following_all config_5 3) (codes "b" ∷ codes "b" ∷ codes "c" ∷ codes "c" ∷ []) types.Txt (0 ∷ 0 ∷ 0 ∷ 0 ∷ 0 ∷ [])
+retailed_3 : walk_along (following_all config_5 3) (codes "b" ∷ codes "b" ∷ codes "c" ∷ codes "c" ∷ []) types.Txt (0 ∷ 0 ∷ 0 ∷ 0 ∷ 0 ∷ [])
     ≡ Some
     (record {
       states =
@@ -252,4 +107,4 @@ retailed_11 : walk_along (following_all config_5 3) (codes "b" ∷ codes "b" ∷
       hops = Rewrite (place_at (codes "b" ∷ codes "b" ∷ codes "b" ∷ []) (codes "b" ∷ codes "b" ∷ []) (codes "b" ∷ codes "b" ∷ codes "c" ∷ [])) true (codes "b" ∷ codes "b" ∷ codes "c" ∷ codes "c" ∷ []) ∷ Rewrite (place_at (codes "b" ∷ codes "b" ∷ codes "b" ∷ []) (codes "b" ∷ codes "b" ∷ []) (codes "b" ∷ codes "b" ∷ codes "c" ∷ [])) true (codes "b" ∷ codes "b" ∷ codes "c" ∷ codes "c" ∷ []) ∷ Rewrite (place_at (codes "b" ∷ codes "b" ∷ codes "b" ∷ []) (codes "b" ∷ codes "b" ∷ []) (codes "b" ∷ codes "b" ∷ codes "c" ∷ [])) true (codes "b" ∷ codes "b" ∷ codes "c" ∷ codes "c" ∷ []) ∷ [];
       leaf = leaves.Limit (place_at (codes "b" ∷ codes "b" ∷ codes "b" ∷ []) (codes "b" ∷ codes "b" ∷ []) (codes "b" ∷ codes "b" ∷ codes "c" ∷ []));
     })
-retailed_11 = refl
+retailed_3 = refl

@@ -29,29 +29,15 @@ config_0 =
 abbrev setting_0 : Setting
 setting_0 = record { config = config_0; rewrites = 1; followed = [] }
 
-nearest_0 : nearest_of config_0 (codes "x" ∷ codes "b" ∷ codes "n" ∷ []) (codes "b" ∷ codes "b" ∷ codes "b" ∷ []) ≡ Some zone_0_0
-nearest_0 = refl
-
-next_1 : next setting_0 types.Txt
+next_0 : next setting_0 types.Txt
     (record { server = codes "x" ∷ codes "b" ∷ codes "n" ∷ []; name = codes "b" ∷ codes "b" ∷ codes "b" ∷ []; carried = true; cut = 0; used = 0; last = None; zone = Some (codes "b" ∷ []) })
     ≡ End None leaves.NxDomain ∷ []
-next_1 = refl
+next_0 = refl
 
-nearest_2 : nearest_of config_0 (codes "x" ∷ codes "b" ∷ codes "n" ∷ []) (codes "b" ∷ codes "www" ∷ []) ≡ Some zone_0_0
-nearest_2 = refl
-
-next_3 : next setting_0 types.A
+next_1 : next setting_0 types.A
     (record { server = codes "x" ∷ codes "b" ∷ codes "n" ∷ []; name = codes "b" ∷ codes "www" ∷ []; carried = false; cut = 1; used = 1; last = Some (place_at (codes "b" ∷ codes "n" ∷ []) [] (codes "b" ∷ codes "www" ∷ [])); zone = Some (codes "b" ∷ []) })
     ≡ End None leaves.NxDomain ∷ []
-next_3 = refl
-
-nearest_4 : nearest_of config_0 (codes "b" ∷ codes "n" ∷ []) (codes "b" ∷ []) ≡ Some zone_0_0
-nearest_4 = refl
-
-next_5 : next setting_0 types.Txt
-    (record { server = codes "b" ∷ codes "n" ∷ []; name = codes "b" ∷ []; carried = true; cut = 1; used = 1; last = Some (place_at (codes "b" ∷ codes "n" ∷ []) [] (codes "b" ∷ [])); zone = Some (codes "b" ∷ []) })
-    ≡ End None leaves.NoData ∷ []
-next_5 = refl
+next_1 = refl
 
 abbrev zone_1_0 : Zone
 zone_1_0 =
@@ -82,29 +68,13 @@ config_1 =
 abbrev setting_1 : Setting
 setting_1 = record { config = config_1; rewrites = 0; followed = (codes "b" ∷ codes "b" ∷ []) ∷ [] }
 
-nearest_6 : nearest_of config_1 (codes "b" ∷ codes "a" ∷ codes "b" ∷ []) (codes "b" ∷ codes "c" ∷ []) ≡ None
-nearest_6 = refl
+nearest_2 : nearest_of config_1 (codes "b" ∷ codes "a" ∷ codes "b" ∷ []) (codes "b" ∷ codes "c" ∷ []) ≡ None
+nearest_2 = refl
 
-next_7 : next setting_1 types.Txt
+next_3 : next setting_1 types.Txt
     (record { server = codes "b" ∷ codes "a" ∷ codes "b" ∷ []; name = codes "b" ∷ codes "c" ∷ []; carried = true; cut = 0; used = 0; last = None; zone = None })
     ≡ End None leaves.Outside ∷ []
-next_7 = refl
-
-nearest_8 : nearest_of config_1 (codes "b" ∷ codes "b" ∷ []) (codes "b" ∷ codes "a" ∷ codes "a" ∷ codes "b" ∷ codes "a" ∷ []) ≡ Some zone_1_1
-nearest_8 = refl
-
-next_9 : next setting_1 types.Txt
-    (record { server = codes "b" ∷ codes "b" ∷ []; name = codes "b" ∷ codes "a" ∷ codes "a" ∷ codes "b" ∷ codes "a" ∷ []; carried = true; cut = 1; used = 0; last = None; zone = Some (codes "b" ∷ []) })
-    ≡ Go (Refer (cut_at (codes "b" ∷ codes "b" ∷ []) (codes "b" ∷ []) (codes "b" ∷ codes "a" ∷ []) (codes "b" ∷ codes "a" ∷ codes "b" ∷ []))) (record { server = codes "b" ∷ codes "a" ∷ codes "b" ∷ []; name = codes "b" ∷ codes "a" ∷ codes "a" ∷ codes "b" ∷ codes "a" ∷ []; carried = true; cut = 2; used = 0; last = None; zone = Some (codes "b" ∷ codes "a" ∷ []) }) ∷ []
-next_9 = refl
-
-nearest_10 : nearest_of config_1 (codes "b" ∷ codes "a" ∷ codes "b" ∷ []) (codes "b" ∷ codes "*" ∷ []) ≡ None
-nearest_10 = refl
-
-next_11 : next setting_1 types.Txt
-    (record { server = codes "b" ∷ codes "a" ∷ codes "b" ∷ []; name = codes "b" ∷ codes "*" ∷ []; carried = true; cut = 0; used = 0; last = None; zone = None })
-    ≡ End None leaves.Outside ∷ []
-next_11 = refl
+next_3 = refl
 
 abbrev zone_2_0 : Zone
 zone_2_0 =
@@ -125,29 +95,18 @@ config_2 =
 abbrev setting_2 : Setting
 setting_2 = record { config = config_2; rewrites = 1; followed = [] }
 
-nearest_12 : nearest_of config_2 (codes "x" ∷ codes "b" ∷ []) (codes "b" ∷ []) ≡ Some zone_2_0
-nearest_12 = refl
+nearest_4 : nearest_of config_2 (codes "x" ∷ codes "b" ∷ []) (codes "b" ∷ []) ≡ Some zone_2_0
+nearest_4 = refl
 
-next_13 : next setting_2 types.Ns
+next_5 : next setting_2 types.Ns
     (record { server = codes "x" ∷ codes "b" ∷ []; name = codes "b" ∷ []; carried = true; cut = 0; used = 0; last = None; zone = Some (codes "b" ∷ []) })
     ≡ End None (leaves.Answer (Ns (codes "x" ∷ codes "b" ∷ []) ∷ Ns (codes "x" ∷ codes "n" ∷ codes "n" ∷ []) ∷ [])) ∷ []
-next_13 = refl
+next_5 = refl
 
-nearest_14 : nearest_of config_2 (codes "x" ∷ codes "b" ∷ []) (codes "b" ∷ []) ≡ Some zone_2_0
-nearest_14 = refl
-
-next_15 : next setting_2 types.Ns
-    (record { server = codes "x" ∷ codes "b" ∷ []; name = codes "b" ∷ []; carried = true; cut = 0; used = 0; last = None; zone = Some (codes "b" ∷ []) })
-    ≡ End None (leaves.Answer (Ns (codes "x" ∷ codes "b" ∷ []) ∷ Ns (codes "x" ∷ codes "n" ∷ codes "n" ∷ []) ∷ [])) ∷ []
-next_15 = refl
-
-nearest_16 : nearest_of config_2 (codes "x" ∷ codes "b" ∷ []) (codes "b" ∷ []) ≡ Some zone_2_0
-nearest_16 = refl
-
-next_17 : next setting_2 types.A
+next_6 : next setting_2 types.A
     (record { server = codes "x" ∷ codes "b" ∷ []; name = codes "b" ∷ []; carried = true; cut = 1; used = 1; last = Some (place_at (codes "x" ∷ codes "b" ∷ []) [] (codes "b" ∷ [])); zone = Some (codes "b" ∷ []) })
     ≡ End None leaves.NoData ∷ []
-next_17 = refl
+next_6 = refl
 
 abbrev zone_3_0 : Zone
 zone_3_0 =
@@ -179,21 +138,18 @@ config_3 =
 abbrev setting_3 : Setting
 setting_3 = record { config = config_3; rewrites = 1; followed = (codes "b" ∷ codes "m" ∷ []) ∷ (codes "x" ∷ codes "n" ∷ []) ∷ [] }
 
-nearest_18 : nearest_of config_3 (codes "b" ∷ codes "m" ∷ []) (codes "a" ∷ codes "c" ∷ codes "a" ∷ codes "b" ∷ codes "b" ∷ codes "a" ∷ []) ≡ Some zone_3_1
-nearest_18 = refl
+nearest_7 : nearest_of config_3 (codes "b" ∷ codes "m" ∷ []) (codes "a" ∷ codes "c" ∷ codes "a" ∷ codes "b" ∷ codes "b" ∷ codes "a" ∷ []) ≡ Some zone_3_1
+nearest_7 = refl
 
-next_19 : next setting_3 types.Ns
+next_8 : next setting_3 types.Ns
     (record { server = codes "b" ∷ codes "m" ∷ []; name = codes "a" ∷ codes "c" ∷ codes "a" ∷ codes "b" ∷ codes "b" ∷ codes "a" ∷ []; carried = true; cut = 1; used = 1; last = Some (place_at (codes "b" ∷ codes "m" ∷ []) [] (codes "a" ∷ codes "c" ∷ codes "a" ∷ codes "b" ∷ codes "b" ∷ codes "a" ∷ [])); zone = Some (codes "a" ∷ codes "c" ∷ codes "a" ∷ []) })
     ≡ End None (leaves.Limit (place_at (codes "b" ∷ codes "m" ∷ []) (codes "a" ∷ codes "c" ∷ codes "a" ∷ []) (codes "a" ∷ codes "c" ∷ codes "a" ∷ codes "b" ∷ codes "b" ∷ []))) ∷ []
-next_19 = refl
+next_8 = refl
 
-nearest_20 : nearest_of config_3 (codes "b" ∷ codes "m" ∷ []) (codes "a" ∷ codes "c" ∷ codes "a" ∷ codes "b" ∷ codes "c" ∷ []) ≡ Some zone_3_1
-nearest_20 = refl
-
-next_21 : next setting_3 types.A
+next_9 : next setting_3 types.A
     (record { server = codes "b" ∷ codes "m" ∷ []; name = codes "a" ∷ codes "c" ∷ codes "a" ∷ codes "b" ∷ codes "c" ∷ []; carried = true; cut = 1; used = 0; last = None; zone = Some (codes "a" ∷ codes "c" ∷ codes "a" ∷ []) })
     ≡ End (Some (Refer (cut_at (codes "b" ∷ codes "m" ∷ []) (codes "a" ∷ codes "c" ∷ codes "a" ∷ []) (codes "a" ∷ codes "c" ∷ codes "a" ∷ codes "b" ∷ codes "c" ∷ []) (codes "x" ∷ codes "n" ∷ [])))) (leaves.Lame (codes "x" ∷ codes "n" ∷ [])) ∷ []
-next_21 = refl
+next_9 = refl
 
 abbrev zone_4_0 : Zone
 zone_4_0 =
@@ -224,10 +180,7 @@ config_4 =
 abbrev setting_4 : Setting
 setting_4 = record { config = config_4; rewrites = 0; followed = [] }
 
-nearest_22 : nearest_of config_4 (codes "a" ∷ codes "c" ∷ codes "a" ∷ codes "n" ∷ []) (codes "a" ∷ codes "c" ∷ codes "b" ∷ codes "b" ∷ []) ≡ Some zone_4_0
-nearest_22 = refl
-
-next_23 : next setting_4 types.Cname
+next_10 : next setting_4 types.Cname
     (record { server = codes "a" ∷ codes "c" ∷ codes "a" ∷ codes "n" ∷ []; name = codes "a" ∷ codes "c" ∷ codes "b" ∷ codes "b" ∷ []; carried = true; cut = 1; used = 0; last = None; zone = Some (codes "a" ∷ codes "c" ∷ []) })
     ≡ Go (Refer (cut_at (codes "a" ∷ codes "c" ∷ codes "a" ∷ codes "n" ∷ []) (codes "a" ∷ codes "c" ∷ []) (codes "a" ∷ codes "c" ∷ codes "b" ∷ codes "b" ∷ []) (codes "a" ∷ codes "c" ∷ codes "a" ∷ []))) (record { server = codes "a" ∷ codes "c" ∷ codes "a" ∷ []; name = codes "a" ∷ codes "c" ∷ codes "b" ∷ codes "b" ∷ []; carried = true; cut = 4; used = 0; last = None; zone = Some (codes "a" ∷ codes "c" ∷ codes "b" ∷ codes "b" ∷ []) }) ∷ []
-next_23 = refl
+next_10 = refl

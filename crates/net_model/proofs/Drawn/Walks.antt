@@ -41,15 +41,6 @@ walk_0 = refl
 no_walk_1 : walk_along (following_all config_0 3) (codes "b" ∷ codes "*" ∷ codes "a" ∷ []) types.Ns (0 ∷ []) ≡ None
 no_walk_1 = refl
 
-no_walk_2 : walk_along (following_all config_0 3) (codes "b" ∷ codes "*" ∷ codes "a" ∷ []) types.Ns (0 ∷ 0 ∷ 0 ∷ []) ≡ None
-no_walk_2 = refl
-
-no_walk_3 : walk_along (following_all config_0 3) (codes "b" ∷ codes "*" ∷ codes "a" ∷ []) types.Ns (0 ∷ 1 ∷ []) ≡ None
-no_walk_3 = refl
-
-no_walk_4 : walk_along (following_all config_0 3) (codes "b" ∷ codes "*" ∷ codes "a" ∷ []) types.Ns (1 ∷ 0 ∷ []) ≡ None
-no_walk_4 = refl
-
 abbrev zone_1_0 : Zone
 zone_1_0 =
     zone_at []
@@ -66,7 +57,7 @@ config_1 =
     (server_at (codes "x" ∷ codes "n" ∷ []) (zone_1_0 ∷ [])
     ∷ [])
 
-walk_5 : walk_along (following_all config_1 3) (codes "b" ∷ codes "c" ∷ codes "a" ∷ codes "a" ∷ []) types.Txt (0 ∷ 0 ∷ 0 ∷ [])
+walk_2 : walk_along (following_all config_1 3) (codes "b" ∷ codes "c" ∷ codes "a" ∷ codes "a" ∷ []) types.Txt (0 ∷ 0 ∷ 0 ∷ [])
     ≡ Some
     (record {
       states =
@@ -76,19 +67,10 @@ walk_5 : walk_along (following_all config_1 3) (codes "b" ∷ codes "c" ∷ code
       hops = Rewrite (place_at (codes "x" ∷ codes "n" ∷ []) [] (codes "b" ∷ codes "c" ∷ codes "a" ∷ [])) true (codes "c" ∷ codes "b" ∷ codes "b" ∷ codes "a" ∷ []) ∷ [];
       leaf = leaves.NoData;
     })
-walk_5 = refl
+walk_2 = refl
 
-no_walk_6 : walk_along (following_all config_1 3) (codes "b" ∷ codes "c" ∷ codes "a" ∷ codes "a" ∷ []) types.Txt (0 ∷ 0 ∷ []) ≡ None
-no_walk_6 = refl
-
-no_walk_7 : walk_along (following_all config_1 3) (codes "b" ∷ codes "c" ∷ codes "a" ∷ codes "a" ∷ []) types.Txt (0 ∷ 0 ∷ 0 ∷ 0 ∷ []) ≡ None
-no_walk_7 = refl
-
-no_walk_8 : walk_along (following_all config_1 3) (codes "b" ∷ codes "c" ∷ codes "a" ∷ codes "a" ∷ []) types.Txt (0 ∷ 0 ∷ 1 ∷ []) ≡ None
-no_walk_8 = refl
-
-no_walk_9 : walk_along (following_all config_1 3) (codes "b" ∷ codes "c" ∷ codes "a" ∷ codes "a" ∷ []) types.Txt (1 ∷ 0 ∷ 0 ∷ []) ≡ None
-no_walk_9 = refl
+no_walk_3 : walk_along (following_all config_1 3) (codes "b" ∷ codes "c" ∷ codes "a" ∷ codes "a" ∷ []) types.Txt (0 ∷ 0 ∷ []) ≡ None
+no_walk_3 = refl
 
 abbrev zone_2_0 : Zone
 zone_2_0 =
@@ -109,7 +91,7 @@ config_2 =
     (server_at (codes "a" ∷ codes "n" ∷ []) (zone_2_0 ∷ [])
     ∷ [])
 
-walk_10 : walk_along (following_all config_2 3) (codes "a" ∷ codes "b" ∷ codes "c" ∷ codes "www" ∷ []) types.A (0 ∷ 0 ∷ 0 ∷ 0 ∷ [])
+walk_4 : walk_along (following_all config_2 3) (codes "a" ∷ codes "b" ∷ codes "c" ∷ codes "www" ∷ []) types.A (0 ∷ 0 ∷ 0 ∷ 0 ∷ [])
     ≡ Some
     (record {
       states =
@@ -120,19 +102,10 @@ walk_10 : walk_along (following_all config_2 3) (codes "a" ∷ codes "b" ∷ cod
       hops = Rewrite (place_at (codes "a" ∷ codes "n" ∷ []) (codes "a" ∷ []) (codes "a" ∷ codes "b" ∷ codes "c" ∷ [])) true (codes "a" ∷ codes "b" ∷ codes "a" ∷ codes "a" ∷ codes "www" ∷ []) ∷ Rewrite (place_at (codes "a" ∷ codes "n" ∷ []) (codes "a" ∷ []) (codes "a" ∷ codes "b" ∷ codes "a" ∷ [])) true (codes "a" ∷ codes "c" ∷ codes "a" ∷ codes "www" ∷ []) ∷ [];
       leaf = leaves.NxDomain;
     })
-walk_10 = refl
+walk_4 = refl
 
-no_walk_11 : walk_along (following_all config_2 3) (codes "a" ∷ codes "b" ∷ codes "c" ∷ codes "www" ∷ []) types.A (0 ∷ 0 ∷ 0 ∷ []) ≡ None
-no_walk_11 = refl
-
-no_walk_12 : walk_along (following_all config_2 3) (codes "a" ∷ codes "b" ∷ codes "c" ∷ codes "www" ∷ []) types.A (0 ∷ 0 ∷ 0 ∷ 0 ∷ 0 ∷ []) ≡ None
-no_walk_12 = refl
-
-no_walk_13 : walk_along (following_all config_2 3) (codes "a" ∷ codes "b" ∷ codes "c" ∷ codes "www" ∷ []) types.A (0 ∷ 0 ∷ 0 ∷ 1 ∷ []) ≡ None
-no_walk_13 = refl
-
-no_walk_14 : walk_along (following_all config_2 3) (codes "a" ∷ codes "b" ∷ codes "c" ∷ codes "www" ∷ []) types.A (1 ∷ 0 ∷ 0 ∷ 0 ∷ []) ≡ None
-no_walk_14 = refl
+no_walk_5 : walk_along (following_all config_2 3) (codes "a" ∷ codes "b" ∷ codes "c" ∷ codes "www" ∷ []) types.A (0 ∷ 0 ∷ 0 ∷ []) ≡ None
+no_walk_5 = refl
 
 abbrev zone_3_0 : Zone
 zone_3_0 =
@@ -154,7 +127,7 @@ config_3 =
     (server_at (codes "m" ∷ []) (zone_3_0 ∷ [])
     ∷ [])
 
-walk_15 : walk_along (following_all config_3 3) (codes "c" ∷ codes "b" ∷ []) types.A (0 ∷ 0 ∷ 0 ∷ 0 ∷ 0 ∷ [])
+walk_6 : walk_along (following_all config_3 3) (codes "c" ∷ codes "b" ∷ []) types.A (0 ∷ 0 ∷ 0 ∷ 0 ∷ 0 ∷ [])
     ≡ Some
     (record {
       states =
@@ -166,19 +139,7 @@ walk_15 : walk_along (following_all config_3 3) (codes "c" ∷ codes "b" ∷ [])
       hops = Rewrite (place_at (codes "m" ∷ []) [] (codes "c" ∷ [])) true (codes "c" ∷ codes "a" ∷ codes "b" ∷ codes "b" ∷ []) ∷ Rewrite (place_at (codes "m" ∷ []) [] (codes "c" ∷ [])) true (codes "c" ∷ codes "a" ∷ codes "b" ∷ codes "a" ∷ codes "b" ∷ codes "b" ∷ []) ∷ Rewrite (place_at (codes "m" ∷ []) [] (codes "c" ∷ [])) true (codes "c" ∷ codes "a" ∷ codes "b" ∷ codes "a" ∷ codes "b" ∷ codes "a" ∷ codes "b" ∷ codes "b" ∷ []) ∷ [];
       leaf = leaves.Limit (place_at (codes "m" ∷ []) [] (codes "c" ∷ []));
     })
-walk_15 = refl
-
-no_walk_16 : walk_along (following_all config_3 3) (codes "c" ∷ codes "b" ∷ []) types.A (0 ∷ 0 ∷ 0 ∷ 0 ∷ []) ≡ None
-no_walk_16 = refl
-
-no_walk_17 : walk_along (following_all config_3 3) (codes "c" ∷ codes "b" ∷ []) types.A (0 ∷ 0 ∷ 0 ∷ 0 ∷ 0 ∷ 0 ∷ []) ≡ None
-no_walk_17 = refl
-
-no_walk_18 : walk_along (following_all config_3 3) (codes "c" ∷ codes "b" ∷ []) types.A (0 ∷ 0 ∷ 0 ∷ 0 ∷ 1 ∷ []) ≡ None
-no_walk_18 = refl
-
-no_walk_19 : walk_along (following_all config_3 3) (codes "c" ∷ codes "b" ∷ []) types.A (1 ∷ 0 ∷ 0 ∷ 0 ∷ 0 ∷ []) ≡ None
-no_walk_19 = refl
+walk_6 = refl
 
 abbrev zone_4_0 : Zone
 zone_4_0 =
@@ -198,7 +159,7 @@ config_4 =
     (server_at (codes "b" ∷ codes "b" ∷ codes "a" ∷ []) (zone_4_0 ∷ [])
     ∷ [])
 
-walk_20 : walk_along (following_all config_4 3) (codes "b" ∷ codes "b" ∷ codes "a" ∷ codes "b" ∷ codes "b" ∷ codes "b" ∷ []) types.A (0 ∷ 0 ∷ [])
+walk_7 : walk_along (following_all config_4 3) (codes "b" ∷ codes "b" ∷ codes "a" ∷ codes "b" ∷ codes "b" ∷ codes "b" ∷ []) types.A (0 ∷ 0 ∷ [])
     ≡ Some
     (record {
       states =
@@ -207,16 +168,4 @@ walk_20 : walk_along (following_all config_4 3) (codes "b" ∷ codes "b" ∷ cod
       hops = Refer (cut_at (codes "b" ∷ codes "b" ∷ codes "a" ∷ []) (codes "b" ∷ codes "b" ∷ []) (codes "b" ∷ codes "b" ∷ codes "a" ∷ codes "b" ∷ []) (codes "b" ∷ codes "b" ∷ [])) ∷ [];
       leaf = leaves.Unhosted (codes "b" ∷ codes "b" ∷ []);
     })
-walk_20 = refl
-
-no_walk_21 : walk_along (following_all config_4 3) (codes "b" ∷ codes "b" ∷ codes "a" ∷ codes "b" ∷ codes "b" ∷ codes "b" ∷ []) types.A (0 ∷ []) ≡ None
-no_walk_21 = refl
-
-no_walk_22 : walk_along (following_all config_4 3) (codes "b" ∷ codes "b" ∷ codes "a" ∷ codes "b" ∷ codes "b" ∷ codes "b" ∷ []) types.A (0 ∷ 0 ∷ 0 ∷ []) ≡ None
-no_walk_22 = refl
-
-no_walk_23 : walk_along (following_all config_4 3) (codes "b" ∷ codes "b" ∷ codes "a" ∷ codes "b" ∷ codes "b" ∷ codes "b" ∷ []) types.A (0 ∷ 1 ∷ []) ≡ None
-no_walk_23 = refl
-
-no_walk_24 : walk_along (following_all config_4 3) (codes "b" ∷ codes "b" ∷ codes "a" ∷ codes "b" ∷ codes "b" ∷ codes "b" ∷ []) types.A (1 ∷ 0 ∷ []) ≡ None
-no_walk_24 = refl
+walk_7 = refl
