@@ -12,7 +12,8 @@ use Rattle.net_model.specs.declared.walk.Leaf.{Leaf}
 use Rattle.net_model.specs.declared.walk.Leaf.TheVariants.{NxDomain}
 use Rattle.net_model.specs.declared.walk.State.{State}
 use Rattle.zone_tree.specs.Tree.{ZoneTree, name_of}
-use Rattle.straight_walks.specs.Answers.{ZoneOwner, alias_answering, answering_by, leaf_of, leaf_with, owner_leaf, sorted_data, zone_owner}
+use Rattle.zone_lookup.specs.Resting.{data_leaf}
+use Rattle.straight_walks.specs.Answers.{ZoneOwner, alias_answering, answering_by, leaf_of, owner_leaf, sorted_data, zone_owner}
 use Rattle.zone_lookup.specs.Reply.{IsReply}
 use Rattle.straight_walks.specs.Searching.{AnswersAlong, AnswersAt, AnswersBehind, AnswersSo, IsAliasEnd, state_at}
 use Rattle.straight_walks.specs.declared.aliases.AliasEnd.{AliasEnd}
@@ -20,7 +21,7 @@ use Rattle.zone_lookup.specs.declared.reply.Reply.TheVariants as reply
 use Rattle.straight_walks.proofs.Replies.{alias_answers, alias_goes, aliased_to, place, records_end}
 
 -- the data of an owner say that the name exists
-data_exist : (found : List Rdata) → leaf_with found ≡ NxDomain → ⊥
+data_exist : (found : List Rdata) → data_leaf found ≡ NxDomain → ⊥
 data_exist [] e = cc
 data_exist (first ∷ rest) e = cc
 

@@ -23,12 +23,13 @@ use Rattle.zone_lookup.specs.declared.reply.Reply.{Reply}
 use Rattle.zone_lookup.specs.declared.reply.Reply.TheVariants as reply
 use Rattle.zone_lookup.proofs.CutsInside.{cut_inside}
 use Rattle.zone_lookup.proofs.Replying as replying
-use Rattle.straight_walks.specs.Answers.{leaf_with, owner_leaf, sorted_data, zone_owner}
+use Rattle.zone_lookup.specs.Resting.{data_leaf}
+use Rattle.straight_walks.specs.Answers.{owner_leaf, sorted_data, zone_owner}
 use Rattle.straight_walks.specs.Searching.{AnswersAt, state_at, to_servers}
 use Rattle.straight_walks.proofs.Unhosted.{nearest_is_held}
 
 -- an owner's data, or that it has none
-answers : (found : List Rdata) (setting : Setting) (state : State) (origin : Labels) → after_lookup setting state origin (answer_of found) ≡ End None (leaf_with found) ∷ []
+answers : (found : List Rdata) (setting : Setting) (state : State) (origin : Labels) → after_lookup setting state origin (answer_of found) ≡ End None (data_leaf found) ∷ []
 answers [] setting state origin = refl
 answers (first ∷ rest) setting state origin = refl
 

@@ -17,21 +17,22 @@ use Rattle.net_model.specs.Shown.{is_authoritative}
 use Rattle.net_model.specs.declared.walk.Leaf.{Leaf}
 use Rattle.net_model.specs.declared.walk.Leaf.TheVariants.{NxDomain}
 use Rattle.walk_laws.specs.Outcome.{outcome_of}
-use Rattle.straight_walks.specs.Answers.{AnswerOwners, ZoneOwner, leaf_of, leaf_with, owner_leaf, owner_with, sorted_data}
+use Rattle.zone_lookup.specs.Resting.{data_leaf}
+use Rattle.straight_walks.specs.Answers.{AnswerOwners, ZoneOwner, leaf_of, owner_leaf, owner_with, sorted_data}
 use Rattle.straight_walks.specs.Ends.{IsOutcomeOf, answers_alike, ends_alike}
 use Rattle.straight_walks.specs.Searching.{AnswerIsPut}
 use Rattle.straight_walks.specs.declared.ends.StraightEnds.{StraightEnds}
 
 -- ---- what a zone answers
 
-told_data : (found : List Rdata) → is_authoritative (leaf_with found) ≡ true
+told_data : (found : List Rdata) → is_authoritative (data_leaf found) ≡ true
 told_data [] = refl
 told_data (first ∷ rest) = refl
 
 -- an owner's zone answers with authority
 owner_told : (owner : ZoneOwner) (rtype : RrType) → is_authoritative (owner_leaf owner rtype) ≡ true
 owner_told owner rtype = by owner.owner where
-  by : (name : Option Labels) → is_authoritative (option_map_or (λ name. leaf_with (sorted_data owner.zone name rtype)) name NxDomain) ≡ true
+  by : (name : Option Labels) → is_authoritative (option_map_or (λ name. data_leaf (sorted_data owner.zone name rtype)) name NxDomain) ≡ true
   by None = refl
   by (Some name) = told_data (sorted_data owner.zone name rtype)
 
@@ -49,15 +50,15 @@ one_answer some other rtype equal = same_answers (leaf_of some rtype) (leaf_of o
 
 -- it is told by the data that the owner has, or that there is none
 told_by : (owner : ZoneOwner) (rtype : RrType) (found : Option (List Rdata)) → found ≡ option_map (λ name. sorted_data owner.zone name rtype) owner.owner
-    → owner_leaf owner rtype ≡ option_map_or leaf_with found NxDomain
-told_by owner rtype found is = by owner.owner ∙ ap (λ (data_found : Option (List Rdata)). option_map_or leaf_with data_found NxDomain) (sym is) where
-  by : (name : Option Labels) → option_map_or (λ name. leaf_with (sorted_data owner.zone name rtype)) name NxDomain
-      ≡ option_map_or leaf_with (option_map (λ name. sorted_data owner.zone name rtype) name) NxDomain
+    → owner_leaf owner rtype ≡ option_map_or data_leaf found NxDomain
+told_by owner rtype found is = by owner.owner ∙ ap (λ (data_found : Option (List Rdata)). option_map_or data_leaf data_found NxDomain) (sym is) where
+  by : (name : Option Labels) → option_map_or (λ name. data_leaf (sorted_data owner.zone name rtype)) name NxDomain
+      ≡ option_map_or data_leaf (option_map (λ name. sorted_data owner.zone name rtype) name) NxDomain
   by None = refl
   by (Some name) = refl
 
 -- data are equal as the answers are that they make
-data_told : (found others : List Rdata) → pointwise data_eq found others ≡ answer_eq (leaf_with found) (leaf_with others)
+data_told : (found others : List Rdata) → pointwise data_eq found others ≡ answer_eq (data_leaf found) (data_leaf others)
 data_told [] [] = refl
 data_told [] (other ∷ others) = refl
 data_told (one ∷ found) [] = refl
@@ -69,9 +70,9 @@ FoundWith answering rtype found =
     found ≡ option_map (λ name. sorted_data (owner_with answering rtype).zone name rtype) (owner_with answering rtype).owner
 
 compared_found : (one other : AnswerOwners) (rtype : RrType) (found others : Option (List Rdata)) → FoundWith one rtype found → FoundWith other rtype others
-    → answer_eq (option_map_or leaf_with found NxDomain) (option_map_or leaf_with others NxDomain) ≡ answer_eq (leaf_of one rtype) (leaf_of other rtype)
+    → answer_eq (option_map_or data_leaf found NxDomain) (option_map_or data_leaf others NxDomain) ≡ answer_eq (leaf_of one rtype) (leaf_of other rtype)
 compared_found one other rtype found others is also =
-    ap (λ (leaf : Leaf). answer_eq leaf (option_map_or leaf_with others NxDomain)) (sym (told_by (owner_with one rtype) rtype found is))
+    ap (λ (leaf : Leaf). answer_eq leaf (option_map_or data_leaf others NxDomain)) (sym (told_by (owner_with one rtype) rtype found is))
     ∙ ap (answer_eq (leaf_of one rtype)) (sym (told_by (owner_with other rtype) rtype others also))
 
 -- if both answering owners have data of the type, their answers are equal exactly if the data are
@@ -80,7 +81,7 @@ pub compared_by_data : (one other : AnswerOwners) (rtype : RrType) (found others
 compared_by_data one other rtype found others is also =
     same_lists found others ∙ data_told found others ∙ compared_found one other rtype (Some found) (Some others) is also
 
-data_or_nothing : (found : List Rdata) → (answer_eq (leaf_with found) NxDomain ≡ false) × (answer_eq NxDomain (leaf_with found) ≡ false)
+data_or_nothing : (found : List Rdata) → (answer_eq (data_leaf found) NxDomain ≡ false) × (answer_eq NxDomain (data_leaf found) ≡ false)
 data_or_nothing [] = (refl, refl)
 data_or_nothing (first ∷ rest) = (refl, refl)
 

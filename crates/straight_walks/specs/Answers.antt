@@ -1,5 +1,5 @@
 -- What a server answers to a query with each type.
-use Rattle.std.specs.Prelude.{ℕ, List, [], ◌∷◌, Option, Some, option_map, if◌then◌else◌}
+use Rattle.std.specs.Prelude.{ℕ, List, Option, Some, option_map, if◌then◌else◌}
 use Rattle.std.specs.Option.{option_map_or}
 use Rattle.dns_data.specs.Name.{Labels}
 use Rattle.dns_data.specs.RrType.{type_eq}
@@ -10,7 +10,8 @@ use Rattle.net_model.specs.Order.{in_order}
 use Rattle.net_model.specs.Zone.{data_at, data_cmp}
 use Rattle.net_model.specs.declared.config.Zone.{Zone}
 use Rattle.net_model.specs.declared.walk.Leaf.{Leaf}
-use Rattle.net_model.specs.declared.walk.Leaf.TheVariants.{Answer, NoData, NxDomain}
+use Rattle.net_model.specs.declared.walk.Leaf.TheVariants.{NxDomain}
+use Rattle.zone_lookup.specs.Resting.{data_leaf}
 use Rattle.zone_tree.specs.Tree.{ZoneTree, name_of}
 
 -- an owner in a zone, whose data the zone answers; without one it answers that there is no such name
@@ -44,14 +45,9 @@ owner_with answering rtype = if type_eq rtype types.Cname then answering.own els
 abbrev pub sorted_data : Zone → Labels → RrType → List Rdata
 sorted_data zone owner rtype = in_order data_cmp (data_at zone owner rtype)
 
--- the answer of these data, or that there are none
-abbrev pub leaf_with : List Rdata → Leaf
-leaf_with [] = NoData
-leaf_with (first ∷ rest) = Answer (first ∷ rest)
-
 -- what an owner's zone answers with a type (RFC 1034 section 4.3.2, RFC 2308 section 2)
 abbrev pub owner_leaf : ZoneOwner → RrType → Leaf
-owner_leaf at rtype = option_map_or (λ owner. leaf_with (sorted_data at.zone owner rtype)) at.owner NxDomain
+owner_leaf at rtype = option_map_or (λ owner. data_leaf (sorted_data at.zone owner rtype)) at.owner NxDomain
 
 -- what is answered with a type
 abbrev pub leaf_of : AnswerOwners → RrType → Leaf

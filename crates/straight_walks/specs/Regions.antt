@@ -70,6 +70,7 @@ pub record IsPastName (name origin : Labels) : Type 0 where
   pub behind : is_lt (name_cmp name origin) ≡ true
   pub not_below : is_prefix name origin ≡ false
 
--- the regions are those of the configuration, with the two sets of learnt addresses, and so are the top servers
+-- the regions are those of the configuration's zones, with the two sets of learnt addresses, and the top servers that are
+-- listed beside them are those of the configuration
 abbrev pub AreRegionsFor : Config → Deps → Regions → Type 0
 AreRegionsFor config deps made = AreRegions config deps made.regions.items × (made.tops ≡ config)

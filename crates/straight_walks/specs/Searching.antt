@@ -288,15 +288,15 @@ abbrev pub IsBegun : Config → Labels → List Queued → Bool → Labels → T
 IsBegun config query queue fails top =
     Contains (map (queued_state config query) queue) (state_at config query top 0) ⊎ ((fails ≡ true) × (nearest_of config top query ≡ None))
 
--- The search for the query begins at each top server, and no other state is queued. Walks fail only where a top server holds
--- no zone for the query.
+-- The state at each top server is queued for the query, unless the server holds no zone for it, and no other state is. Walks
+-- fail only where a top server holds none.
 pub record BeginsAtTops (config : Config) (query : Labels) (queue : List Queued) (fails : Bool) : Type 0 where
   pub each : (top : Labels) → Contains config.tops top → IsBegun config query queue fails top
   pub only : (one : Queued) → Contains queue one → Contains (start config query) (queued_state config query one)
   pub told : fails ≡ true → (top : Labels) × Contains config.tops top × (nearest_of config top query ≡ None)
 
--- the search for the name begins at each top server, and walks come to each queued state; from those that are passed walks go
--- straight, and the query has the outcomes of the ends
+-- The state at each top server is queued for the query, or the server holds no zone for it, and walks fail. Walks come to
+-- each queued state; from those that are passed walks go straight, and the query has the outcomes of the ends.
 pub record HasWalked (config : Config) (deps : Deps) (query : Labels) (queue passed : List Queued) (ends : StraightEnds) : Type 0 where
   pub begins : (top : Labels) → Contains config.tops top → IsBegun config query queue ends.fails top
   pub comes : (setting : Setting) (rtype : RrType) → IsSettingOf config deps setting → (one : Queued) → Contains queue one

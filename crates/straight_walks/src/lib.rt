@@ -12,10 +12,10 @@
 //! cut, and nothing is copied; for one that is, four names are lent. Of more than 32 top servers those are looked at
 //! that hold a zone at or above the origin: a table gives them that is made once, by the origins of the top servers'
 //! zones, and each front of the origin is looked for in it. At the others a walk ends at once; they are counted with the
-//! states, and neither queued nor kept. A state is found among more than 32 in a set. An origin keeps 32 octets of each state that
-//! is looked at. For a query there is a search among the origins, of two comparisons where the query before it stands
-//! between the same two origins. At each server that answers for the query's nearest origin there is a search among the
-//! server's zones for the nearest zone, of three, one of them for the server, where no origin of the server's stands
+//! states, and neither queued nor kept. A state is found among more than 32 in a set. An origin keeps 32 octets of each
+//! state that is looked at. For a query there is a search among the origins, of two comparisons where the query before it
+//! stands between the same two origins. At each server that answers for the query's nearest origin there is a search among
+//! the server's zones for the nearest zone, of three, one of them for the server, where no origin of the server's stands
 //! between the query and its nearest origin, and what decides at the query is looked for. Where that is the query itself
 //! two or three comparisons of names more tell whether anything is below it by an asterisk label. Where it is an alias
 //! the same is done for its target, at the same server, and for no more than four aliases one behind the other. Where a
@@ -35,6 +35,7 @@
 mod aliases;
 mod answering;
 mod answers;
+mod asked;
 mod below;
 mod ends;
 mod name_server;

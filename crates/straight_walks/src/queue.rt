@@ -14,9 +14,11 @@ use std::collections::BTreeSet;
 use std::marker::Model;
 use zone_lookup::{Hosts, Near, TopServers};
 
-/// So many top servers are all queued, without asking which of them hold a zone; and so many states are looked through for
-/// one, without a set.
-const FEW: usize = 32;
+/// So many top servers are all queued, without asking which of them hold a zone.
+const FEW_TOPS: usize = 32;
+
+/// So many states are looked through for one, without a set.
+const FEW_STATES: usize = 32;
 
 /// A state to which walks for a name come: the server, and how many labels the zone cut has that led there, 0 where
 /// none did; with a place near which the zone is looked for in which the server looks the name up.
@@ -51,7 +53,7 @@ pub(crate) fn start_states<'a>(
     ensures { IfOk result (λ queue. (query : Labels) → NoOriginBetween hosts.now name.now query
         → BeginsAtTops hosts.now query queue.items (nat_lt (length queue.items) (length hosts.now.tops))) }
 {
-    if tops.count() <= FEW {
+    if tops.count() <= FEW_TOPS {
         return all_states(alloc, hosts, name);
     }
     let holding = tops.holding(alloc, name)?;
@@ -151,7 +153,7 @@ impl<'a> Queue<'a> {
         if self.has(server, cut) {
             return Ok(());
         }
-        let marked = self.states.len() >= FEW;
+        let marked = self.states.len() >= FEW_STATES;
         self.states
             .push(Queued::for_name(hosts, name, server, cut))?;
         if marked {
@@ -166,7 +168,7 @@ impl<'a> Queue<'a> {
         ensures { result ≡ true → (config : Config) (query : Labels) → Contains (map (queued_state config query) self.now) (state_at config query server.now cut) }
     {
         let states = self.states.as_slice();
-        is_among(&states[..states.len().min(FEW)], server, cut)
+        is_among(&states[..states.len().min(FEW_STATES)], server, cut)
             || self.marks.contains(&(cut, server))
     }
 }

@@ -5,13 +5,15 @@ ghost use Rattle.dns_data.specs.Name.{is_prefix};
 ghost use Rattle.net_model.specs.Nearest.{held_zone};
 ghost use Rattle.net_model.specs.Zone.{ns_names};
 ghost use Rattle.zone_tree.specs.Tree.{IsNode, name_of};
-ghost use Rattle.straight_walks.specs.Searching.{AllEndOutside, AreReferrals, IsReferral};
+ghost use Rattle.zone_lookup.specs.LentCut.{cut_of};
+ghost use Rattle.straight_walks.specs.Searching.{AllEndOutside, AreReferrals, IsReferral, cut_to};
 
+use crate::asked::Asked;
 use crate::name_server::{Referral, ends_outside, referral_on, referral_to_unhosted};
 use crate::queue::Queue;
 use dns_data::{Name, NoMemory};
 use std::alloc::Global;
-use zone_lookup::{Hosts, Lead, LearntSets, LentCut, Walker};
+use zone_lookup::{Hosts, Lead, LentCut, Walker};
 use zone_tree::{NodeId, Tree};
 
 /// Whether none of the name servers of a zone cut is configured, so that walks end at all of them, and the referrals are
@@ -30,13 +32,11 @@ pub(crate) fn all_end_outside(hosts: &Hosts<'_>, tree: &Tree<'_>, cut: NodeId) -
     !servers.is_empty()
 }
 
-/// Whether the referrals of a zone cut are seen to show no fault. The states at its name servers that are configured
-/// are queued then; and walks fail that end at one that isn't.
+/// Whether the referrals of a zone cut from a server are seen to show no fault. The states at its name servers that are
+/// configured are queued then; and walks fail that end at one that isn't.
 pub(crate) fn queue_referrals<'a>(
     alloc: Global,
-    hosts: &Hosts<'a>,
-    sets: &LearntSets,
-    query: &Name,
+    asked: Asked<'_, '_, 'a>,
     server: &Name,
     tree: &Tree<'a>,
     cut: NodeId,
@@ -45,45 +45,44 @@ pub(crate) fn queue_referrals<'a>(
 ) -> Result<bool, NoMemory>
     requires node { IsNode tree.now cut }
     requires inside { is_prefix tree.now.zone.origin (name_of tree.now cut) ≡ true }
-    requires held { held_zone hosts.now server.now tree.now.zone.origin ≡ Some tree.now.zone }
+    requires held { held_zone asked.hosts.now server.now tree.now.zone.origin ≡ Some tree.now.zone }
     ensures { IfOk result (λ straight. straight ≡ true
-        → AreReferrals hosts.now sets.now query.now server.now tree.now.zone (name_of tree.now cut) (ns_names tree.now.zone (name_of tree.now cut)) queue.old fails.old queue.new fails.new) }
+        → AreReferrals asked.entry.hosts.now asked.entry.sets.now asked.entry.name.now server.now tree.now.zone (name_of tree.now cut) (ns_names tree.now.zone (name_of tree.now cut)) queue.old fails.old queue.new fails.new) }
 {
+    let owner = tree.name(cut);
     for ns in tree.name_servers(cut) {
-        match referral_to(alloc, hosts, sets, query, server, tree, cut, ns)? {
+        let to = LentCut {
+            server,
+            zone: &tree.zone().origin,
+            cut: owner,
+            ns,
+        };
+        match referral_to(alloc, asked, tree, cut, to)? {
             Referral::Ends => *fails = true,
-            Referral::GoesOn => queue.put(hosts, query, ns, tree.name(cut).len())?,
+            Referral::GoesOn => queue.put(asked.hosts, asked.name, ns, owner.len())?,
             Referral::Unclear => return Ok(false),
         }
     }
     Ok(true)
 }
 
-/// The referral of a zone cut to one of its name servers.
+/// The referral of a zone cut to one of its name servers, which is lent.
 fn referral_to(
     alloc: Global,
-    hosts: &Hosts<'_>,
-    sets: &LearntSets,
-    query: &Name,
-    server: &Name,
+    asked: Asked<'_, '_, '_>,
     tree: &Tree<'_>,
     cut: NodeId,
-    ns: &Name,
+    to: LentCut<'_>,
 ) -> Result<Referral, NoMemory>
     requires node { IsNode tree.now cut }
     requires inside { is_prefix tree.now.zone.origin (name_of tree.now cut) ≡ true }
-    requires held { held_zone hosts.now server.now tree.now.zone.origin ≡ Some tree.now.zone }
-    ensures { IfOk result (IsReferral hosts.now sets.now query.now (record { server = server.now; zone = tree.now.zone.origin; cut = name_of tree.now cut; ns = ns.now })) }
+    requires held { held_zone asked.hosts.now to.server.now tree.now.zone.origin ≡ Some tree.now.zone }
+    requires lent { cut_of to ≡ cut_to to.server.now tree.now.zone (name_of tree.now cut) to.ns.now }
+    ensures { IfOk result (IsReferral asked.entry.hosts.now asked.entry.sets.now asked.entry.name.now (cut_of to.entry)) }
 {
-    let to = LentCut {
-        server,
-        zone: &tree.zone().origin,
-        cut: tree.name(cut),
-        ns,
-    };
-    match Walker::following_least(hosts, 0, sets).leads(to, query) {
-        Lead::Goes(_) => referral_on(alloc, hosts, sets, to),
-        Lead::Unhosted => Ok(referral_to_unhosted(tree, cut, ns)),
+    match Walker::following_least(asked.hosts, 0, asked.sets).leads(to, asked.name) {
+        Lead::Goes(_) => referral_on(alloc, asked.hosts, asked.sets, to),
+        Lead::Unhosted => Ok(referral_to_unhosted(tree, cut, to.ns)),
         Lead::NoAddress | Lead::Lame => Ok(Referral::Unclear),
     }
 }

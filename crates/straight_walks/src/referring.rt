@@ -13,8 +13,8 @@ use zone_tree::{NodeId, Tree};
 
 /// The next referral of a search over the queued states that it hasn't passed yet: there is none, walks end at all of
 /// them, and all servers that answer answer alike; or they do so up to the state of this place, whose server refers the
-/// query by this zone cut; or memory was wanting, which is no `Err`, since no call that gives a `Result` of nodes is proved.
-/// A zone cut at all of whose name servers walks end is no such referral. Of other searches nothing is said.
+/// query by this zone cut; or memory was wanting, which is no `Err`, since no call that gives a `Result` of nodes is
+/// proved. A zone cut at all of whose name servers walks end is no such referral. Of other searches nothing is said.
 #[derive(Clone, Copy)]
 pub(crate) enum NextReferral<'h, 'a> {
     Ends,

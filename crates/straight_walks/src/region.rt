@@ -3,6 +3,7 @@
 ghost use Rattle.std.specs.Prelude.{◌≡◌, ◌++◌, [], true, length, IfOk, IfSome};
 ghost use Rattle.straight_walks.specs.Regions.{IsLookedAt, IsSearchBelow};
 
+use crate::asked::Asked;
 use crate::queue::{Queue, Queued};
 use crate::referrals::queue_referrals;
 use crate::searching::Search;
@@ -125,11 +126,14 @@ impl<'a> RegionSearch<'a> {
                 Ok(true)
             }
             Reply::Refers(tree, cut) => {
-                if !queue_referrals(
-                    alloc,
+                let asked = Asked {
                     hosts,
                     sets,
-                    origin,
+                    name: origin,
+                };
+                if !queue_referrals(
+                    alloc,
+                    asked,
                     one.server,
                     tree,
                     cut,

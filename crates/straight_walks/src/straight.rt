@@ -19,6 +19,7 @@ ghost use Rattle.straight_walks.specs.Regions.{AreRegionsFor, IsSearchBelow};
 ghost use Rattle.straight_walks.specs.Straight.{NoOriginBetween};
 ghost use Rattle.walk_laws.specs.Outcome.{HasOutcome};
 
+use crate::asked::Asked;
 use crate::ends::StraightEnds;
 use crate::queue::Queue;
 use crate::referrals::queue_referrals;
@@ -116,11 +117,16 @@ fn ends_by_region<'h, 'a>(
     requires { AreRegionsFor hosts.now sets.now regions.now }
     ensures { IfOk result (λ found. IfSome found (HoldsOfEachTold hosts.now query.now (GoesStraightIn hosts.now sets.now limits.rewrites (limits.states + length hosts.now.tops)))) }
 {
+    let asked = Asked {
+        hosts,
+        sets,
+        name: query,
+    };
     match regions.search_for(near, query) {
-        Some(searched) => ends_from(alloc, hosts, sets, query, searched, limits),
+        Some(searched) => ends_from(alloc, asked, searched, limits),
         None => {
             let searched = Search::at_top(alloc, hosts, regions.tops(), query)?;
-            ends_from(alloc, hosts, sets, query, &searched, limits)
+            ends_from(alloc, asked, &searched, limits)
         }
     }
 }
@@ -129,14 +135,13 @@ fn ends_by_region<'h, 'a>(
 /// copied where a server refers the query to servers that are configured, and the search goes on from there.
 fn ends_from<'h, 'a>(
     alloc: Global,
-    hosts: &'h Hosts<'a>,
-    sets: &LearntSets,
-    query: &Name,
+    asked: Asked<'h, '_, 'a>,
     searched: &Search<'a>,
     limits: Limits,
 ) -> Result<Option<StraightEnds<'h, 'a>>, NoMemory>
-    requires { IsSearchBelow hosts.now sets.now query.now searched.now }
-    ensures { IfOk result (λ found. IfSome found (HoldsOfEachTold hosts.now query.now (GoesStraightIn hosts.now sets.now limits.rewrites (limits.states + length hosts.now.tops)))) }
+    requires { IsSearchBelow asked.hosts.now asked.sets.now asked.name.now searched.now }
+    ensures { IfOk result (λ found. IfSome found (HoldsOfEachTold asked.entry.hosts.now asked.entry.name.now
+        (GoesStraightIn asked.entry.hosts.now asked.entry.sets.now limits.rewrites (limits.states + length asked.entry.hosts.now.tops)))) }
 {
     let queue = searched.queue.as_slice();
     if queue.len() > limits.states {
@@ -149,18 +154,23 @@ fn ends_from<'h, 'a>(
         below: true,
         unnamed_below: true,
     };
-    match next_referral(alloc, hosts, query, queue, searched.passed, &mut ends) {
+    match next_referral(
+        alloc,
+        asked.hosts,
+        asked.name,
+        queue,
+        searched.passed,
+        &mut ends,
+    ) {
         NextReferral::Ends => Ok(ends_within(ends, queue.len(), limits)),
         NextReferral::NoMemory => Err(NoMemory),
         NextReferral::Unclear => Ok(None),
         NextReferral::Refers { passed, tree, cut } => {
             let mut queue = Queue::of(alloc, Vec::from_slice(alloc, queue)?);
-            if !passes_referral(
-                alloc, hosts, sets, query, tree, cut, passed, &mut queue, &mut ends,
-            )? {
+            if !passes_referral(alloc, asked, tree, cut, passed, &mut queue, &mut ends)? {
                 return Ok(None);
             }
-            all_ends(alloc, hosts, sets, query, queue, passed + 1, ends, limits)
+            all_ends(alloc, asked, queue, passed + 1, ends, limits)
         }
     }
 }
@@ -169,22 +179,28 @@ fn ends_from<'h, 'a>(
 /// refer the query. A search has passed the first so many of them; what walks end in there is told.
 fn all_ends<'h, 'a>(
     alloc: Global,
-    hosts: &'h Hosts<'a>,
-    sets: &LearntSets,
-    query: &Name,
+    asked: Asked<'h, '_, 'a>,
     queue: Queue<'a>,
     passed: usize,
     ends: StraightEnds<'h, 'a>,
     limits: Limits,
 ) -> Result<Option<StraightEnds<'h, 'a>>, NoMemory>
-    requires { HavePassed hosts.now sets.now query.now queue passed ends }
-    ensures { IfOk result (λ found. IfSome found (HoldsOfEachTold hosts.now query.now (GoesStraightIn hosts.now sets.now limits.rewrites (limits.states + length hosts.now.tops)))) }
+    requires { HavePassed asked.hosts.now asked.sets.now asked.name.now queue passed ends }
+    ensures { IfOk result (λ found. IfSome found (HoldsOfEachTold asked.entry.hosts.now asked.entry.name.now
+        (GoesStraightIn asked.entry.hosts.now asked.entry.sets.now limits.rewrites (limits.states + length asked.entry.hosts.now.tops)))) }
 {
     let mut queue = queue;
     let mut passed = passed;
     let mut ends = ends;
     while queue.len() <= limits.states {
-        match next_referral(alloc, hosts, query, queue.as_slice(), passed, &mut ends) {
+        match next_referral(
+            alloc,
+            asked.hosts,
+            asked.name,
+            queue.as_slice(),
+            passed,
+            &mut ends,
+        ) {
             NextReferral::Ends => return Ok(ends_within(ends, queue.len(), limits)),
             NextReferral::NoMemory => return Err(NoMemory),
             NextReferral::Unclear => return Ok(None),
@@ -193,9 +209,7 @@ fn all_ends<'h, 'a>(
                 tree,
                 cut,
             } => {
-                if !passes_referral(
-                    alloc, hosts, sets, query, tree, cut, place, &mut queue, &mut ends,
-                )? {
+                if !passes_referral(alloc, asked, tree, cut, place, &mut queue, &mut ends)? {
                     return Ok(None);
                 }
                 passed = place + 1;
@@ -210,9 +224,7 @@ fn all_ends<'h, 'a>(
 /// whether walks fail.
 fn passes_referral<'h, 'a>(
     alloc: Global,
-    hosts: &'h Hosts<'a>,
-    sets: &LearntSets,
-    query: &Name,
+    asked: Asked<'h, '_, 'a>,
     tree: &'h Tree<'a>,
     cut: NodeId,
     place: usize,
@@ -220,22 +232,13 @@ fn passes_referral<'h, 'a>(
     ends: &mut StraightEnds<'h, 'a>,
 ) -> Result<bool, NoMemory>
     requires within { place < length queue.old }
-    requires refers { IfSome (slice_get queue.old place) (λ one. IsReply hosts.now one.server.now query.now (reply_as.Refers tree cut)) }
-    requires passed { HavePassed hosts.now sets.now query.now queue.old place ends.old }
-    ensures { IfOk result (λ straight. straight ≡ true → HavePassed hosts.now sets.now query.now queue.new (place + 1) ends.new) }
+    requires refers { IfSome (slice_get queue.old place) (λ one. IsReply asked.hosts.now one.server.now asked.name.now (reply_as.Refers tree cut)) }
+    requires passed { HavePassed asked.hosts.now asked.sets.now asked.name.now queue.old place ends.old }
+    ensures { IfOk result (λ straight. straight ≡ true
+        → HavePassed asked.entry.hosts.now asked.entry.sets.now asked.entry.name.now queue.new (place + 1) ends.new) }
 {
     let server = queue.as_slice()[place].server;
-    queue_referrals(
-        alloc,
-        hosts,
-        sets,
-        query,
-        server,
-        tree,
-        cut,
-        queue,
-        &mut ends.fails,
-    )
+    queue_referrals(alloc, asked, server, tree, cut, queue, &mut ends.fails)
 }
 
 /// The ends, where no walk is rewritten more often than it may be, and so many states are no more than may be looked

@@ -11,7 +11,7 @@ use Rattle.net_model.specs.Nearest.{nearest_of}
 use Rattle.net_model.specs.Step.{Setting, Branch, End, delegated, referred}
 use Rattle.zone_lookup.specs.declared.leads.Lead.{Lead}
 use Rattle.zone_lookup.specs.declared.leads.Lead.TheVariants as lead
-use Rattle.zone_lookup.specs.Leads.{IsLead, IsReached, lead_branch}
+use Rattle.zone_lookup.specs.Leads.{IsLead, IsKnownServer, lead_branch}
 
 module _ (setting : Setting) (state : State) (cut : Cut) where
   -- the branch, by whether the name server is configured and its address is known
@@ -20,7 +20,7 @@ module _ (setting : Setting) (state : State) (cut : Cut) where
       if not configured then End (Some (Refer cut)) (leaf.Unhosted cut.ns)
       else (if not known then End (Some (Refer cut)) (leaf.NoAddress cut.ns) else delegated state cut (nearest_of setting.config cut.ns state.name))
 
-  reached : IsReached setting cut → referred setting state cut ≡ delegated state cut (nearest_of setting.config cut.ns state.name)
+  reached : IsKnownServer setting cut → referred setting state cut ≡ delegated state cut (nearest_of setting.config cut.ns state.name)
   reached is = rw (is.configured, is.known) refl
 
   lame : (held : Option Zone) → ((zone : Zone) → held ≡ Some zone → is_prefix cut.cut zone.origin ≡ false) → delegated state cut held ≡ End (Some (Refer cut)) (leaf.Lame cut.ns)

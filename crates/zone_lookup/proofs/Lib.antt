@@ -5,6 +5,7 @@ pub mod Glue
 mod GoingAlike
 pub mod InsideZones
 pub mod Leading
+mod LikeTops
 pub mod ListedWalks
 pub mod NamesAtRest
 pub mod NearestZones

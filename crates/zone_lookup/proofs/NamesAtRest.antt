@@ -1,6 +1,6 @@
 -- A name rests if its walks end at the top servers, where they begin: which walks it has, and whether its address is learnt.
-use Rattle.std.proofs.Common.{◌≡◌, ℕ, ◌*◌, ◌≤◌, Bool, true, false, cond, List, [], ◌∷◌, ◌++◌, length, map, filter, Contains, Option, None, Some, Bor, lt-ltb, inl, inr, refl, sym, ap, ◌∙◌, subst, arith, length-append}
-use Rattle.std.specs.Prelude.{◌||◌, ◌==◌, not, nat_lt, is_some, IsSome}
+use Rattle.std.proofs.Common.{◌≡◌, ℕ, ◌*◌, ◌≤◌, Bool, true, false, cond, List, [], ◌∷◌, ◌++◌, length, map, filter, Contains, Option, None, Some, Bor, Ordering, Less, Equal, Greater, lt-ltb, true≢false, inl, inr, refl, sym, ap, ◌∙◌, subst, arith, length-append}
+use Rattle.std.specs.Prelude.{◌||◌, nat_lt, is_some, IsSome}
 use Rattle.std.specs.List.{AllByRecursion, flat_map, list_any}
 use Rattle.std.proofs.Math.Bool.{or-false, or-true}
 use Rattle.std.proofs.lemmas.Bool.{or_cases}
@@ -10,23 +10,25 @@ use Rattle.std.proofs.lemmas.List.Sums.{count_by-le-length, length-filter}
 use Rattle.dns_data.specs.Name.{Labels}
 use Rattle.dns_data.specs.RrType.{types, type_eq}
 use Rattle.dns_data.specs.declared.rdata.Rdata.{Rdata}
+use Rattle.dns_data.specs.declared.rdata.Rr.{Rr}
 use Rattle.dns_data.specs.declared.rr_type.RrType.{RrType}
 use Rattle.dns_data.specs.declared.rr_type.RrType.TheVariants as rtypes
-use Rattle.dns_data.proofs.Membership.{first_or_later, flat_map_has, from_map, map_has, none_in_nil}
+use Rattle.dns_data.proofs.Membership.{first_or_later, flat_map_has, from_map, has_first, has_later, map_has, none_in_nil}
 use Rattle.dns_data.proofs.Searches.{from_any}
 use Rattle.net_model.specs.declared.config.Config.{Config}
 use Rattle.net_model.specs.declared.config.Zone.{Zone}
+use Rattle.net_model.specs.declared.walk.Leaf.{Leaf}
 use Rattle.net_model.specs.declared.walk.Leaf.TheVariants.{NxDomain, Outside}
 use Rattle.net_model.specs.declared.walk.State.{State}
 use Rattle.net_model.specs.declared.walk.Walk.{Walk}
 use Rattle.net_model.specs.Learnt.{gives_address}
 use Rattle.net_model.specs.Lookup.{answer_of}
 use Rattle.net_model.specs.Nearest.{nearest_of, server_names}
-use Rattle.net_model.specs.Order.{in_order}
+use Rattle.net_model.specs.Order.{beside, in_order, put_in_order}
 use Rattle.net_model.specs.Step.{Branch, End, Setting, after_lookup, arrived, following, start}
 use Rattle.net_model.specs.Tree.{HasMoreThan, IsReached}
 use Rattle.net_model.specs.Walk.{AreWalks, walk_along}
-use Rattle.net_model.specs.Zone.{data_at, data_cmp}
+use Rattle.net_model.specs.Zone.{data_at, data_cmp, has_address, is_of, owns}
 use Rattle.net_model.proofs.AllWalks.{LeadsTo, Settled, walks_by, walks_within}
 use Rattle.net_model.proofs.Counting.{no_more_than}
 use Rattle.net_model.proofs.WalkLists.{are_walks}
@@ -35,7 +37,7 @@ use Rattle.zone_tree.proofs.Types.{among_types, one_type}
 use Rattle.zone_lookup.specs.Reply.{IsReply}
 use Rattle.zone_lookup.specs.declared.reply.Reply.TheVariants as reply
 use Rattle.zone_lookup.specs.Resting.{AreEnds, EndsAt, Rests, data_leaf, records_leaf}
-use Rattle.zone_lookup.specs.Tops.{tops_holding}
+use Rattle.zone_lookup.specs.Tops.{HasLike, StandsForTops, tops_holding}
 use Rattle.zone_lookup.proofs.ListedWalks.{is_listed, learns_told, no_more_listed}
 use Rattle.zone_lookup.proofs.Replying.{nothing_ends, outside_ends, records_answer}
 
@@ -46,23 +48,47 @@ data_end : (all : List Rdata) (setting : Setting) (state : State) (origin : Labe
 data_end [] setting state origin = refl
 data_end (first ∷ rest) setting state origin = refl
 
--- in an answer, unless there are none
-pub data_give : (all : List Rdata) → not (length all == 0) ≡ gives_address (data_leaf all)
-data_give [] = refl
-data_give (first ∷ rest) = ap not (let some : (length (first ∷ rest) == 0) ≡ false = grind (arith, nat_tests) in some)
+-- in an address, unless there are none
+given_some : (items : List Rdata) (rdata : Rdata) → gives_address (data_leaf (put_in_order data_cmp rdata items)) ≡ true
+given_some [] rdata = refl
+given_some (item ∷ items) rdata = by (data_cmp rdata item) where
+  by : (o : Ordering) → gives_address (data_leaf (beside rdata item items (put_in_order data_cmp rdata items) o)) ≡ true
+  by Less = refl
+  by Equal = refl
+  by Greater = refl
+
+-- a name owns data of a type exactly where a walk ends in them
+owned_given : (name : Labels) (rtype : RrType) (rrs : List Rr)
+    → list_any (is_of name rtype) rrs ≡ gives_address (data_leaf (in_order data_cmp (map (λ rr. rr.rdata) (filter (is_of name rtype) rrs))))
+owned_given name rtype [] = refl
+owned_given name rtype (rr ∷ rrs) = by (is_of name rtype rr) (owned_given name rtype rrs) where
+  by : (b : Bool) → list_any (is_of name rtype) rrs ≡ gives_address (data_leaf (in_order data_cmp (map (λ rr. rr.rdata) (filter (is_of name rtype) rrs))))
+      → (b || list_any (is_of name rtype) rrs)
+      ≡ gives_address (data_leaf (in_order data_cmp (map (λ (r : Rr). r.rdata) (cond b (rr ∷ filter (is_of name rtype) rrs) (filter (is_of name rtype) rrs)))))
+  by true rest = sym (given_some (in_order data_cmp (map (λ (r : Rr). r.rdata) (filter (is_of name rtype) rrs))) rr.rdata)
+  by false rest = rest
+
+-- so a name owns an address exactly where one is given
+pub owned_address_given : (tree : ZoneTree) (owner : ℕ)
+    → has_address tree.zone (name_of tree owner) ≡ (gives_address (records_leaf tree owner rtypes.A) || gives_address (records_leaf tree owner rtypes.Aaaa))
+owned_address_given tree owner =
+    ap (λ (b : Bool). b || owns tree.zone (name_of tree owner) rtypes.Aaaa) (owned_given (name_of tree owner) rtypes.A tree.zone.rrs)
+    ∙ ap (λ (b : Bool). gives_address (records_leaf tree owner rtypes.A) || b) (owned_given (name_of tree owner) rtypes.Aaaa tree.zone.rrs)
 
 module _ (config : Config) (name server : Labels) where
   pub outside_ends_at : IsReply config server name reply.Outside → EndsAt config name server true
   outside_ends_at so = record {
     leaf = λ rtype. Outside;
-    ends = λ rewrites followed rtype. outside_ends (following config rewrites followed) (arrived config name true 0 None server) rtype so;
+    ends = λ other same rewrites followed rtype.
+        outside_ends (following config rewrites followed) (arrived config name true 0 None other) rtype (same ∙ so);
     is_given = refl;
   }
 
   pub nothing_ends_at : (tree : Bor ZoneTree) → IsReply config server name (reply.Nothing tree) → EndsAt config name server false
   nothing_ends_at tree so = record {
     leaf = λ rtype. NxDomain;
-    ends = λ rewrites followed rtype. nothing_ends (following config rewrites followed) (arrived config name true 0 None server) rtype tree so;
+    ends = λ other same rewrites followed rtype.
+        nothing_ends (following config rewrites followed) (arrived config name true 0 None other) rtype tree (same ∙ so.0, so.1);
     is_given = refl;
   }
 
@@ -70,10 +96,10 @@ module _ (config : Config) (name server : Labels) where
       → gives ≡ (gives_address (records_leaf tree.now owner rtypes.A) || gives_address (records_leaf tree.now owner rtypes.Aaaa)) → EndsAt config name server gives
   records_end_at tree owner so gives is = record {
     leaf = records_leaf tree.now owner;
-    ends = λ rewrites followed rtype.
-        records_answer (following config rewrites followed) (arrived config name true 0 None server) rtype tree owner so
+    ends = λ other same rewrites followed rtype.
+        records_answer (following config rewrites followed) (arrived config name true 0 None other) rtype tree owner (same ∙ so.0, so.1)
         ∙ data_end (in_order data_cmp (data_at tree.now.zone (name_of tree.now owner) rtype)) (following config rewrites followed)
-        (arrived config name true 0 None server) tree.now.zone.origin;
+        (arrived config name true 0 None other) tree.now.zone.origin;
     is_given = is;
   }
 
@@ -132,7 +158,7 @@ module _ (config : Config) (name : Labels) where
     settled : (servers : List Labels) (given : Bool) → AreEnds config name servers given → AllByRecursion (Settled 1 while rtype) (map begins_at servers)
     settled [] given are = tt
     settled (server ∷ servers) given (here, later, ends, behind, is) =
-        (subst (AllByRecursion (LeadsTo (Settled 0 while rtype))) (sym (ends.ends rewrites followed rtype)) (tt, tt), settled servers later behind)
+        (subst (AllByRecursion (LeadsTo (Settled 0 while rtype))) (sym (ends.ends server refl rewrites followed rtype)) (tt, tt), settled servers later behind)
 
     -- so these are all
     all_walks : (servers : List Labels) (given : Bool) (are : AreEnds config name servers given)
@@ -141,7 +167,7 @@ module _ (config : Config) (name : Labels) where
     all_walks (server ∷ servers) given (here, later, ends, behind, is) =
         ap (λ (walks : List Walk). record { states = begins_at server ∷ []; hops = []; leaf = ends.leaf rtype } ∷ walks) (all_walks servers later behind)
         ∙ ap (λ (branches : List Branch). flat_map (walks_by (walks_within 0 while rtype) (begins_at server)) branches
-        ++ flat_map (walks_within 1 while rtype) (map begins_at servers)) (sym (ends.ends rewrites followed rtype))
+        ++ flat_map (walks_within 1 while rtype) (map begins_at servers)) (sym (ends.ends server refl rewrites followed rtype))
 
 -- a name rests if the walks that begin at the top servers end there
 ends_rest : (config : Config) (name : Labels) (given : Bool) → AreEnds config name config.tops given → Rests config name given
@@ -205,12 +231,90 @@ module _ (config : Config) (name : Labels) where
               ∙ later_first (nat_lt (length (filter holds servers)) (length servers)) here later,
         )
 
--- a name rests if the walks end that begin at those that hold a zone for it
-pub tops_rest : (config : Config) (name : Labels) (holding : List Labels) (given : Bool) → holding ≡ tops_holding config name
-    → AreEnds config name holding given → Rests config name (nat_lt (length holding) (length config.tops) || given)
-tops_rest config name holding given is are =
-    subst (λ (servers : List Labels). Rests config name (nat_lt (length servers) (length config.tops) || given)) (sym is)
-    (ends_rest config name _ (ends_at_all config name config.tops given (subst (λ (servers : List Labels). AreEnds config name servers given) is are)))
+-- ---- top servers that stand for others
+
+module _ (config : Config) (name : Labels) where
+  -- where walks end at each of some servers it's told of each
+  told_at : (servers : List Labels) (given : Bool) → AreEnds config name servers given → (server : Labels) → Contains servers server
+      → (here : Bool) × EndsAt config name server here × (here ≡ true → given ≡ true)
+  told_at [] given are server has = absurd (none_in_nil server has)
+  told_at (first ∷ servers) given (here, later, ends, behind, is) server has =
+      elim (first_or_later first servers server has) [
+        | inl same ↦ (here, subst (λ (s : Labels). EndsAt config name s here) same ends, λ gives. is ∙ ap (λ (b : Bool). b || later) gives)
+        | inr rest ↦ (
+            let (there, at, gives_there) = told_at servers later behind server rest in
+            (there, at, λ gives. is ∙ ap (λ (b : Bool). here || b) (gives_there gives) ∙ or-true here)
+            )
+      ]
+
+  -- where an address is given one of them gives it
+  giving_one : (servers : List Labels) (given : Bool) → AreEnds config name servers given → given ≡ true
+      → (server : Labels) × Contains servers server × EndsAt config name server true
+  giving_one [] given are gives = absurd (true≢false (sym gives ∙ are))
+  giving_one (first ∷ servers) given (here, later, ends, behind, is) gives =
+      elim (or_cases here later (sym is ∙ gives)) [
+        | inl first_gives ↦ (first, has_first first servers, subst (EndsAt config name first) first_gives ends)
+        | inr rest ↦ (let (server, has, at) = giving_one servers later behind rest in (server, has_later first servers server has, at))
+      ]
+
+  -- walks end alike at another server that looks the name up in the same zone
+  ends_alike : (server other : Labels) (here : Bool) → nearest_of config server name ≡ nearest_of config other name → EndsAt config name server here
+      → EndsAt config name other here
+  ends_alike server other here same ends =
+      record { leaf = ends.leaf; ends = λ third alike. ends.ends third (alike ∙ sym same); is_given = ends.is_given }
+
+  -- of a server one thing is told
+  told_once : (server : Labels) (one two : Bool) → EndsAt config name server one → EndsAt config name server two → one ≡ two
+  told_once server one two a b =
+      a.is_given ∙ ap (λ (leaf : Leaf). gives_address leaf || gives_address (a.leaf rtypes.Aaaa)) (same rtypes.A)
+      ∙ ap (λ (leaf : Leaf). gives_address (b.leaf rtypes.A) || gives_address leaf) (same rtypes.Aaaa) ∙ sym b.is_given
+    where
+      same : (rtype : RrType) → a.leaf rtype ≡ b.leaf rtype
+      same rtype =
+          let one_end : (End None (a.leaf rtype) ∷ []) ≡ (End None (b.leaf rtype) ∷ []) = sym (a.ends server refl 0 [] rtype) ∙ b.ends server refl 0 [] rtype in cc
+
+  -- walks end at servers each of which has one like it among those at which they end
+  ends_like : (servers : List Labels) (given : Bool) → AreEnds config name servers given → (tops : List Labels)
+      → ((top : Labels) → Contains tops top → HasLike config servers top) → (all : Bool) × AreEnds config name tops all × (all ≡ true → given ≡ true)
+  ends_like servers given are [] each = (false, refl, λ gives. absurd (true≢false (sym gives)))
+  ends_like servers given are (top ∷ tops) each =
+      let (other, has, same) = each top (has_first top tops) in
+      let (here, ends, gives_here) = told_at servers given are other has in
+      let (later, behind, gives_later) = ends_like servers given are tops (λ t among. each t (has_later top tops t among)) in (
+        here || later,
+        (here, later, ends_alike other top here (same name) ends, behind, refl),
+        λ gives. elim (or_cases here later gives) [ inl first_gives ↦ gives_here first_gives | inr rest ↦ gives_later rest ],
+      )
+
+  -- it's told the same of them where those are among them
+  ends_at_each : (servers : List Labels) (given : Bool) → AreEnds config name servers given → (tops : List Labels)
+      → ((server : Labels) → Contains servers server → Contains tops server) → ((top : Labels) → Contains tops top → HasLike config servers top)
+      → AreEnds config name tops given
+  ends_at_each servers given are tops some each =
+      let (all, ends, gives) = ends_like servers given are tops each in
+      subst (AreEnds config name tops) (alike all given gives (λ yes.
+      let (server, has, at) = giving_one servers given are yes in
+      let (here, ends_here, gives_here) = told_at tops all ends server (some server has) in
+      gives_here (told_once server here true ends_here at))) ends
+    where
+      alike : (a b : Bool) → (a ≡ true → b ≡ true) → (b ≡ true → a ≡ true) → a ≡ b
+      alike true b to back = sym (to refl)
+      alike false true to back = back refl
+      alike false false to back = refl
+
+-- a name rests if the walks end that begin at those that hold a zone for it, among top servers that stand for all
+pub tops_rest : (config listed : Config) (name : Labels) (holding : List Labels) (given : Bool) → StandsForTops config listed → holding ≡ tops_holding listed name
+    → AreEnds config name holding given → Rests config name (nat_lt (length holding) (length listed.tops) || given)
+tops_rest config listed name holding given stands is are =
+    subst (λ (servers : List Labels). Rests config name (nat_lt (length servers) (length listed.tops) || given)) (sym are_these)
+    (subst (λ (k : Config). Rests config name (nat_lt (length (filter (holds config name) stands.tops)) (length k.tops) || given)) (sym stands.is)
+    (ends_rest config name _
+    (ends_at_each config name stands.tops _
+    (ends_at_all config name stands.tops given (subst (λ (servers : List Labels). AreEnds config name servers given) are_these are))
+    config.tops stands.some stands.each)))
+  where
+    are_these : holding ≡ filter (holds config name) stands.tops
+    are_these = is ∙ ap (λ (k : Config). tops_holding k name) stands.is
 
 -- ---- how much a name reaches that rests
 

@@ -1,5 +1,5 @@
 -- The top servers that hold a zone for a name, by the places that are listed for the origins of their zones.
-use Rattle.std.proofs.Common.{◌≡◌, ℕ, zero, suc, ◌+◌, ◌<◌, Bool, true, false, cond, List, [], ◌∷◌, ◌++◌, is_eq, map, reverse, length, take, drop, Contains, get_or, AllPairs, filter, Option, Some, None, is_some, option_and_then, Less, Equal, Greater, Ordering, true≢false, refl, sym, ap, ◌∙◌, subst, inl, inr, arith}
+use Rattle.std.proofs.Common.{◌≡◌, ℕ, zero, suc, ◌+◌, ◌<◌, Bool, true, false, cond, List, [], ◌∷◌, ◌++◌, is_eq, map, reverse, length, take, drop, Contains, get_or, AllPairs, filter, Option, Some, None, is_some, option_and_then, option_map, Less, Equal, Greater, Ordering, true≢false, refl, sym, ap, ◌∙◌, subst, inl, inr, arith, length-append}
 use Rattle.std.specs.Prelude.{◌⊎◌, ◌↔◌, slice_get, unwrap_or}
 use Rattle.std.specs.BTreeMap as tree
 use Rattle.std.specs.BTreeSet.{insert_key}
@@ -11,7 +11,7 @@ use Rattle.std.specs.Ordering.{match_ordering, nat_cmp}
 use Rattle.std.proofs.lemmas.Bool.{cases_lt}
 use Rattle.std.proofs.lemmas.Cmp.{nat_cmp_total}
 use Rattle.std.proofs.lemmas.List.{take-append-drop, take_more}
-use Rattle.std.proofs.lemmas.Option.{slice_get_within}
+use Rattle.std.proofs.lemmas.Option.{slice_get-map, slice_get_within}
 use Rattle.std.proofs.lemmas.List.Elements.{All-from_recursion, filter_map-append, Contains-append_cases, Contains-append_left, Contains-append_right}
 use Rattle.std.proofs.lemmas.List.Kept.{AllPairs-cons}
 use Rattle.std.proofs.lemmas.List.Sorted.{IsPermutation-reverse, IsPermutation-sym, Contains-permutation}
@@ -32,7 +32,7 @@ use Rattle.net_model.specs.declared.config.Zone.{Zone}
 use Rattle.net_model.proofs.FirstLabel.{nat_cmp_less}
 use Rattle.net_model.proofs.Prefixes.{from_prefixes, prefixes_have}
 use Rattle.zone_tree.proofs.Prefixes.{begins_short}
-use Rattle.zone_lookup.specs.Tops.{HoldsAt, HoldsThese, IsListedAbove, IsListedFor, ListsTops, tops_holding}
+use Rattle.zone_lookup.specs.Tops.{HoldsAt, HoldsThese, IsListedAbove, IsListedFor, ListsTops, tops_holding, with_tops}
 
 -- ---- places of items
 
@@ -287,32 +287,61 @@ none_held config top unnamed origin = (
   (λ has. absurd (none_in_nil origin has)),
 )
 
+-- at places of a mapped list the images are read of what is read of the list there
+pub read_mapped : {X Y : Type 0} (f : X → Y) (xs : List X) (places : List ℕ) → map f (filter_map (slice_get xs) places) ≡ filter_map (slice_get (map f xs)) places
+read_mapped f xs [] = refl
+read_mapped f xs (place ∷ places) =
+    by (slice_get xs place) (read_mapped f xs places) ∙ ap (λ found. cons_option found (filter_map (slice_get (map f xs)) places)) (sym (slice_get-map f xs place))
+  where
+    by : (found : Option _) → map f (filter_map (slice_get xs) places) ≡ filter_map (slice_get (map f xs)) places
+        → map f (cons_option found (filter_map (slice_get xs) places)) ≡ cons_option (option_map f found) (filter_map (slice_get (map f xs)) places)
+    by None rest = rest
+    by (Some x) rest = ap (λ (all : List _). f x ∷ all) rest
+
+-- the items of a list are read at their places too where more stand behind them
+read_within : {X : Type 0} (xs more : List X) (place : ℕ) → place < length xs → slice_get (xs ++ more) place ≡ slice_get xs place
+read_within [] more place within = absurd (omega (arith, within))
+read_within (x ∷ xs) more zero within = refl
+read_within (x ∷ xs) more (suc place) within = read_within xs more place (omega (arith, within))
+
+-- the one behind them is read at the place of their number
+read_behind_all : {X : Type 0} (xs : List X) (x : X) → slice_get (xs ++ x ∷ []) (length xs) ≡ Some x
+read_behind_all [] x = refl
+read_behind_all (first ∷ xs) x = read_behind_all xs x
+
 module _ (config : Config) where
   -- of no top server nothing is listed
-  pub lists_none : (places : Places) → ((name : Labels) → places_of places name ≡ []) → ListsTops config 0 places
-  lists_none places none origin place =
-      ((λ has. absurd (none_in_nil place (subst (λ (all : List ℕ). Contains all place) (none origin) has))), (λ so. absurd (omega (arith, so.0))))
+  pub lists_none : (places : Places) → ((name : Labels) → places_of places name ≡ []) → ListsTops (with_tops config []) places
+  lists_none places none origin place = (
+    (λ has. absurd (none_in_nil place (subst (λ (all : List ℕ). Contains all place) (none origin) has))),
+    (λ so. absurd (let none = slice_get_within [] place so.0 so.1 in omega (arith, none))),
+  )
 
   -- one top server's place is listed more for the origins of its zones
-  pub lists_more : (bound : ℕ) (top : Labels) (names : List Labels) (old new : Places) → slice_get config.tops bound ≡ Some top → HoldsThese config top names
-      → ListsTops config bound old → IsListedFor bound names old new → ListsTops config (bound + 1) new
-  lists_more bound top names old new here holds before put origin place = (to, back) where
-    to : Contains (places_of new origin) place → (place < bound + 1) × HoldsAt config origin place
+  pub lists_more : (tops : List Labels) (top : Labels) (names : List Labels) (old new : Places) → HoldsThese config top names → ListsTops (with_tops config tops) old
+      → IsListedFor (length tops) names old new → ListsTops (with_tops config (tops ++ top ∷ [])) new
+  lists_more tops top names old new holds before put origin place = (to, back) where
+    to : Contains (places_of new origin) place → HoldsAt (with_tops config (tops ++ top ∷ [])) origin place
     to has =
         elim ((put origin place).0 has) [
-          | inl was ↦ (let so = (before origin place).0 was in (omega (arith, so.0), so.1))
-          | inr (at, among) ↦ (omega (arith, at), (top, ap (slice_get config.tops) at ∙ here, (holds origin).1 among))
+          | inl was ↦ (
+              let (one, there, held) = (before origin place).0 was in
+              (one, read_within tops (top ∷ []) place (slice_get_within tops place one there) ∙ there, held)
+              )
+          | inr (at, among) ↦ (top, ap (slice_get (tops ++ top ∷ [])) at ∙ read_behind_all tops top, (holds origin).1 among)
         ]
 
-    back : (place < bound + 1) × HoldsAt config origin place → Contains (places_of new origin) place
-    back (within, (one, there, held)) =
-        elim (cases_lt place bound) [
-          | inl less ↦ (put origin place).1 (inl ((before origin place).1 (less, (one, there, held))))
+    back : HoldsAt (with_tops config (tops ++ top ∷ [])) origin place → Contains (places_of new origin) place
+    back (one, there, held) =
+        elim (cases_lt place (length tops)) [
+          | inl less ↦ (put origin place).1 (inl ((before origin place).1 (one, sym (read_within tops (top ∷ []) place less) ∙ there, held)))
           | inr past ↦ (
-              let at : place ≡ bound = omega (arith, within, past) in
-              let same : Some one ≡ Some top = sym there ∙ ap (slice_get config.tops) at ∙ here in
+              let at : place ≡ length tops =
+              omega (arith, slice_get_within (tops ++ top ∷ []) place one there, length-append tops (top ∷ []), past) in
+              let same : Some one ≡ Some top = sym there ∙ ap (slice_get (tops ++ top ∷ [])) at ∙ read_behind_all tops top in
               let is : one ≡ top = cc in
-              (put origin place).1 (inr (at, (holds origin).0 (subst (λ (t : Labels). is_some (held_zone config t origin) ≡ true) is held))))
+              (put origin place).1 (inr (at, (holds origin).0 (subst (λ (t : Labels). is_some (held_zone config t origin) ≡ true) is held)))
+              )
         ]
 
   module _ (name : Labels) where
@@ -352,7 +381,7 @@ module _ (config : Config) where
           ap (λ (o : Option Labels). is_some (option_and_then (zone_with_origin holder) o)) found.1 ∙ found.2
 
     -- at the places that are listed for a name and its ancestors, in order, the top servers stand that hold a zone for it
-    pub tops_read : (listed : Places) → ListsTops config (length config.tops) listed → (places : List ℕ) → IsStrictlySortedBy nat_cmp places
+    pub tops_read : (listed : Places) → ListsTops config listed → (places : List ℕ) → IsStrictlySortedBy nat_cmp places
         → ((place : ℕ) → Contains places place ↔ IsListedAbove listed name (length name + 1) place)
         → filter_map (slice_get config.tops) places ≡ tops_holding config name
     tops_read listed lists places sorted are =
@@ -361,13 +390,13 @@ module _ (config : Config) where
         to : (place : ℕ) → Contains places place → (top : Labels) × (slice_get config.tops place ≡ Some top) × (is_some (nearest_of config top name) ≡ true)
         to place has =
             let (count, few, among) = (are place).0 has in
-            let (within, (top, there, held)) = (lists (take count name) place).0 among in
+            let (top, there, held) = (lists (take count name) place).0 among in
             (top, there, above_held top count held)
 
         back : (place : ℕ) → (top : Labels) × (slice_get config.tops place ≡ Some top) × (is_some (nearest_of config top name) ≡ true) → Contains places place
         back place (top, there, holds) =
             let (count, few, held) = held_above top holds in
-            (are place).1 (count, few, (lists (take count name) place).1 (slice_get_within config.tops place top there, (top, there, held)))
+            (are place).1 (count, few, (lists (take count name) place).1 (top, there, held))
 
 -- ---- loops over places
 

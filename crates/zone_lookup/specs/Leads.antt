@@ -13,7 +13,7 @@ use Rattle.zone_lookup.specs.declared.leads.Lead.{Lead}
 use Rattle.zone_lookup.specs.declared.leads.Lead.TheVariants.{Unhosted, NoAddress, Lame, Goes}
 
 -- the cut's name server is configured, and its address is known
-pub record IsReached (setting : Setting) (cut : Cut) : Type 0 where
+pub record IsKnownServer (setting : Setting) (cut : Cut) : Type 0 where
   pub configured : is_configured setting.config cut.ns ≡ true
   pub known : may_follow setting.config cut setting.followed ≡ true
 
@@ -23,9 +23,9 @@ IsLead setting cut name Unhosted = is_configured setting.config cut.ns ≡ false
 IsLead setting cut name NoAddress =
     (is_configured setting.config cut.ns ≡ true) × (may_follow setting.config cut setting.followed ≡ false)
 IsLead setting cut name Lame =
-    IsReached setting cut × ((zone : Zone) → nearest_of setting.config cut.ns name ≡ Some zone → is_prefix cut.cut zone.origin ≡ false)
+    IsKnownServer setting cut × ((zone : Zone) → nearest_of setting.config cut.ns name ≡ Some zone → is_prefix cut.cut zone.origin ≡ false)
 IsLead setting cut name (Goes tree) =
-    IsReached setting cut × (nearest_of setting.config cut.ns name ≡ Some tree.now.zone) × (is_prefix cut.cut tree.now.zone.origin ≡ true)
+    IsKnownServer setting cut × (nearest_of setting.config cut.ns name ≡ Some tree.now.zone) × (is_prefix cut.cut tree.now.zone.origin ≡ true)
 
 -- the branch of a state's referral that leads so
 abbrev pub lead_branch : State → Cut → Lead → Branch

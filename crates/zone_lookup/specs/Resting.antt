@@ -9,6 +9,7 @@ use Rattle.net_model.specs.declared.walk.Leaf.{Leaf}
 use Rattle.net_model.specs.declared.walk.Leaf.TheVariants.{Answer, NoData}
 use Rattle.net_model.specs.declared.walk.Walk.{Walk}
 use Rattle.net_model.specs.Learnt.{Learns, gives_address}
+use Rattle.net_model.specs.Nearest.{nearest_of}
 use Rattle.net_model.specs.Order.{in_order}
 use Rattle.net_model.specs.Step.{End, arrived, following, next, start}
 use Rattle.net_model.specs.Walk.{AreWalks}
@@ -22,15 +23,16 @@ pub record Rests (config : Config) (name : Labels) (learnt : Bool) : Type 0 wher
       × AreWalks (following config rewrites followed) name rtype all × (map (λ walk. walk.states) all ≡ map (λ state. state ∷ []) (start config name))
   pub learns : (rewrites : ℕ) (followed : List Labels) → (learnt ≡ true) ↔ Learns (following config rewrites followed) name
 
--- The walks of the name that begin at the server end there, whichever servers are followed; it's told whether one with an
--- address type gives an address. The contracts of inner calls alone cite what follows.
+-- The walks of the name that begin at the server, or at another that looks it up in the same zone, end there, whichever
+-- servers are followed; it's told whether one with an address type gives an address. The contracts of inner calls alone cite
+-- what follows.
 pub record EndsAt (config : Config) (name server : Labels) (gives : Bool) : Type 0 where
   pub leaf : RrType → Leaf
-  pub ends : (rewrites : ℕ) (followed : List Labels) (rtype : RrType)
-      → next (following config rewrites followed) rtype (arrived config name true 0 None server) ≡ End None (leaf rtype) ∷ []
+  pub ends : (other : Labels) → nearest_of config other name ≡ nearest_of config server name → (rewrites : ℕ) (followed : List Labels) (rtype : RrType)
+      → next (following config rewrites followed) rtype (arrived config name true 0 None other) ≡ End None (leaf rtype) ∷ []
   pub is_given : gives ≡ (gives_address (leaf types.A) || gives_address (leaf types.Aaaa))
 
--- so do those that begin at one of the servers, and it's told whether one of them gives an address
+-- walks of the name end at each of the servers where they begin, and it's told whether one of them gives an address
 abbrev pub AreEnds : Config → Labels → List Labels → Bool → Type 0
 AreEnds config name [] given = given ≡ false
 AreEnds config name (server ∷ servers) given =

@@ -2,10 +2,13 @@
 
 ghost use Rattle.std.specs.Prelude.{◌≡◌, ◌||◌, true};
 ghost use Rattle.dns_data.specs.Name.{is_prefix};
+ghost use Rattle.dns_data.specs.declared.rr_type.RrType.TheVariants as types;
+ghost use Rattle.net_model.specs.Learnt.{gives_address};
 ghost use Rattle.net_model.specs.Nearest.{is_top};
 ghost use Rattle.net_model.specs.Step.{has_glue, may_follow};
 ghost use Rattle.net_model.specs.Zone.{has_address};
 ghost use Rattle.zone_lookup.specs.LentCut.{cut_of};
+ghost use Rattle.zone_lookup.specs.Resting.{records_leaf};
 ghost use Rattle.zone_tree.specs.Tree.{IsNode, name_of};
 
 use crate::hosts::Hosts;
@@ -38,7 +41,7 @@ impl<'a> Hosts<'a> {
 
     /// Whether the name server has glue in the referral: it is at or below the zone cut, and the referring zone holds an
     /// address of it.
-    pub fn has_glue(&self, cut: LentCut<'_>) -> bool
+    pub(crate) fn has_glue(&self, cut: LentCut<'_>) -> bool
         requires { is_prefix cut.zone.now cut.cut.now ≡ true }
         ensures { result ≡ has_glue self.now (cut_of cut.entry) }
     {
@@ -76,10 +79,11 @@ fn has_address(tree: &Tree<'_>, name: &Name) -> bool
     }
 }
 
-/// Whether a node's name owns an address record.
-fn owns_address(tree: &Tree<'_>, node: NodeId) -> bool
+/// Whether a node's name owns an address record, so that a walk with the record's type ends in it.
+pub(crate) fn owns_address(tree: &Tree<'_>, node: NodeId) -> bool
     requires { IsNode tree.now node }
-    ensures { result ≡ has_address tree.now.zone (name_of tree.now node) }
+    ensures owns { result ≡ has_address tree.now.zone (name_of tree.now node) }
+    ensures gives { result ≡ (gives_address (records_leaf tree.now node types.A) || gives_address (records_leaf tree.now node types.Aaaa)) }
 {
     let types = tree.types(node);
     types.has(RrType::A) || types.has(RrType::Aaaa)

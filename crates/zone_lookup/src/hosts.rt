@@ -85,7 +85,7 @@ impl<'a> Hosts<'a> {
 
     /// The tree of the zone in which the server of this name looks a name up, or `None` where the server isn't
     /// configured or has no zone for the name (RFC 1034 section 4.3.2, step 2). It is looked for near a place first.
-    pub fn nearest_near(&self, near: Near, server: &Name, name: &Name) -> Option<&Tree<'a>>
+    pub(crate) fn nearest_near(&self, near: Near, server: &Name, name: &Name) -> Option<&Tree<'a>>
         ensures zone { option_map (λ tree. tree.now.zone) result ≡ nearest_of self.now server.now name.now }
         ensures inside { IfSome result (λ tree. is_prefix tree.now.zone.origin name.now ≡ true) }
     {
@@ -170,7 +170,7 @@ impl<'a> Host<'a> {
     }
 
     /// The tree of the server's zone with the longest origin at or above the name (RFC 1034 section 4.3.2, step 2).
-    pub fn nearest(&self, name: &Name) -> Option<&Tree<'a>>
+    pub(crate) fn nearest(&self, name: &Name) -> Option<&Tree<'a>>
         ensures zone { option_map (λ tree. tree.now.zone) result ≡ nearest self.now name.now }
         ensures inside { IfSome result (λ tree. is_prefix tree.now.zone.origin name.now ≡ true) }
     {
@@ -192,7 +192,7 @@ impl<'a> Host<'a> {
     }
 
     /// The tree of the server's zone with this origin, the first of several.
-    pub fn zone_with_origin(&self, origin: &Name) -> Option<&Tree<'a>>
+    pub(crate) fn zone_with_origin(&self, origin: &Name) -> Option<&Tree<'a>>
         ensures { option_map (λ tree. tree.now.zone) result ≡ zone_with_origin self.now origin.now }
     {
         self.tree_of(&origin.labels())

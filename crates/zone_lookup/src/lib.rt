@@ -1,27 +1,32 @@
 //! What a server replies to a name, where a referral leads, the steps of a walk from server to server, and what the zones
-//! and the learnt addresses tell of a referral.
+//! and the learnt addresses tell of a referral and of a name.
 //!
-//! The layer above may rest on this: `reply_of` gives what decides at a name in the zone in which a server looks it up, and
-//! `Walker::leads` where a referral to a name server leads, as the definitions do; neither takes memory. `next_steps` gives
-//! the steps of a state by its server's reply, and `steps_of` those of a state, as the definition `next` does. `Hosts` finds
-//! a server, a zone by its origin and the nearest zone of a name as the definitions do, and tells which name servers may
-//! be followed. It gives all servers, and a server all trees, where no two have one name or one origin. `starts` gives
-//! the states in which a query begins. `put_cut_faults`
-//! puts what a referral shows, whatever comes behind it, as the definitions say: whether the two zones list other name
-//! servers or hold other addresses, whether glue is missing, and whether the name server's address depends on itself
-//! (`LearntSets` has the learnt addresses); one that `is_sound` lets pass shows none of these.
+//! The layer above may rest on this: `reply_of` gives what decides at a name in the zone in which a server looks it up,
+//! and `Walker::leads` where a referral to a name server leads, as the definitions do; neither takes memory. `next_steps`
+//! gives the steps of a state by its server's reply, and `steps_of` those of a state, as the definition `next` does.
+//! `Hosts` finds a server, a zone by its origin and the nearest zone of a name as the definitions do, and tells which
+//! name servers may be followed. It gives all servers, and a server all trees, where no two have one name or one origin.
+//! `starts` gives the states in which a query begins. `find` answers as the definition `found` does, and `split_types`
+//! and `split_by` put the types of a set together that go the same way. `TopServers` gives the top servers that hold a
+//! zone for a name; of a name whose walks end there `learnt_at_tops` tells whether its address is learnt.
+//! `put_cut_faults` puts what a referral shows, whatever comes behind it, as the definitions say: whether the two zones
+//! list other name servers or hold other addresses, whether glue is missing, and whether the name server's address
+//! depends on itself (`LearntSets` has the learnt addresses); one that `is_sound` lets pass shows none of these.
 //!
-//! Costs: what decides at a name is found in one search among the zone's names, or in two where a wildcard may answer.
-//! No data are looked at but those that are answered. A server and a zone are found in as many comparisons of names as
-//! the logarithm of their number. For the nearest zone of a name there is one such search, `nearest_item`, and one more
-//! each time that the origin before the place of the name, or of its prefix, is not at or above the name: the next
-//! search is for the prefix that both have in common. The first search takes two comparisons where the place near which
-//! the name is looked for is the place of the last origin that isn't behind it; a server takes one where it stands at
-//! its place near, as `nearest_near` looks for both. Glue that stands right behind its zone cut in the order of names
-//! is found in a few comparisons. Of a referral both zones are found by their origins, and their name servers and the
-//! addresses of glue are compared; whether a name is among the learnt ones is found in sets that are made once.
-//! `is_sound` looks into one name server, and for one that isn't configured only for its glue; `may_follow` passes over
-//! the top servers.
+//! Costs: what decides at a name is found in one search among the zone's names, or in two where a wildcard may answer. No
+//! data are looked at but those that are answered. A server and a zone are found in as many comparisons of names as the
+//! logarithm of their number. For the nearest zone of a name there is one such search, `nearest_item`, and one more each
+//! time that the origin before the place of the name, or of its prefix, is not at or above the name: the next search is
+//! for the prefix that both have in common. The first search takes two comparisons where the place near which the name is
+//! looked for is the place of the last origin that isn't behind it; a server takes one where it stands at its place near,
+//! as `nearest_near` looks for both. Glue that stands right behind its zone cut in the order of names is found in a few
+//! comparisons. Of a referral both zones are found by their origins, and their name servers and the addresses of glue are
+//! compared; whether a name is among the learnt ones is found in sets that are made once. `is_sound` looks into one name
+//! server, and for one that isn't configured only for its glue; `may_follow` passes over the top servers. Those that hold
+//! a zone for a name are found by its prefixes, and `learnt_at_tops` asks each of them once. Where thousands hold the same
+//! zones they are asked as one: `TopServers::unlike` compares each top server's zones, record by record, with those of a
+//! few others, and leaves the server out where they are the same. That no zone refers or rewrites a name would be told
+//! sooner, but most zones do, and where none gives an address each would still be asked.
 #![tactic(auto)]
 
 mod alike;
@@ -38,6 +43,7 @@ mod referral_faults;
 mod reply;
 mod resting;
 mod rewrites;
+mod same_zones;
 mod sides;
 mod sound;
 mod steps;

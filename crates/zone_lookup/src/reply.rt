@@ -8,9 +8,9 @@ use crate::hosts::{Hosts, Near};
 use dns_data::Name;
 use zone_tree::{Decider, NodeId, Tree, deciding};
 
-/// What a server replies to a name, whatever the type (RFC 1034 section 4.3.2): it holds no zone for the name; it refers the
-/// name by this zone cut; the DNAME record of this owner with this target redirects the name; this owner, whose records are
-/// the name's, is an alias of this target; it is none; or there is no such name. It takes no memory.
+/// What a server replies to a name, whatever the type (RFC 1034 section 4.3.2): it holds no zone for the name; it refers
+/// the name by this zone cut; the DNAME record of this owner with this target redirects the name; this owner, whose records
+/// are the name's, is an alias of this target; it is none; or there is no such name. It takes no memory.
 #[derive(Clone, Copy)]
 pub enum Reply<'h, 'a> {
     Outside,

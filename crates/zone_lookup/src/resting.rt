@@ -1,20 +1,19 @@
 //! Names that rest: their walks end at the top servers, where they begin.
 
-ghost use Rattle.std.specs.Prelude.{◌≡◌, ◌||◌, map, IfOk, IfSome};
-ghost use Rattle.dns_data.specs.declared.rr_type.RrType.TheVariants as types;
-ghost use Rattle.net_model.specs.Learnt.{gives_address};
-ghost use Rattle.zone_lookup.specs.Resting.{AreEnds, EndsAt, Rests, records_leaf};
-ghost use Rattle.zone_tree.specs.Tree.{IsNode};
+ghost use Rattle.std.specs.Prelude.{map, IfOk, IfSome};
+ghost use Rattle.zone_lookup.specs.Resting.{AreEnds, EndsAt, Rests};
+ghost use Rattle.zone_lookup.specs.Tops.{StandsForTops};
 
+use crate::follow::owns_address;
 use crate::hosts::Hosts;
 use crate::reply::{Reply, reply_of};
 use crate::tops::TopServers;
-use dns_data::{Name, NoMemory, RrType};
+use dns_data::{Name, NoMemory};
 use std::alloc::Global;
-use zone_tree::{NodeId, Tree};
 
-/// Whether an address of a name that rests can be learnt, whichever servers are followed; or `None` where the name doesn't
-/// rest, since the zone of a top server refers or rewrites it. Only the top servers are asked that hold a zone for the name.
+/// Whether an address of a name that rests can be learnt, whichever servers are followed; or `None` where it isn't seen at
+/// once that the name rests, since the zone of one of the top servers refers or rewrites it. Of top servers that hold the
+/// same zones one is asked, as `TopServers::unlike` lists them, and only one that holds a zone for the name.
 #[tactic(auto, using(crate::proofs::NamesAtRest::tops_rest))]
 pub fn learnt_at_tops(
     alloc: Global,
@@ -22,7 +21,7 @@ pub fn learnt_at_tops(
     tops: &TopServers<'_>,
     name: &Name,
 ) -> Result<Option<bool>, NoMemory>
-    requires { tops.now ≡ hosts.now }
+    requires { StandsForTops hosts.now tops.now }
     ensures { IfOk result (λ told. IfSome told (Rests hosts.now name.now)) }
 {
     let holding = tops.holding(alloc, name)?;
@@ -57,13 +56,4 @@ fn gives_at(hosts: &Hosts<'_>, server: &Name, name: &Name) -> Option<bool>
         Reply::Nothing(_) => Some(false),
         _ => None,
     }
-}
-
-/// Whether the node's name owns an address, so that a walk with the address's type ends in an answer.
-#[tactic(auto, using(crate::proofs::NamesAtRest::data_give))]
-fn owns_address(tree: &Tree<'_>, owner: NodeId) -> bool
-    requires { IsNode tree.now owner }
-    ensures { result ≡ (gives_address (records_leaf tree.now owner types.A) || gives_address (records_leaf tree.now owner types.Aaaa)) }
-{
-    !tree.set(owner, RrType::A).is_empty() || !tree.set(owner, RrType::Aaaa).is_empty()
 }

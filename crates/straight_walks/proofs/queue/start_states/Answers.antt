@@ -8,8 +8,8 @@ use Rattle.straight_walks.specs.Searching.{state_at}
 use Rattle.straight_walks.proofs.BeginningSearches.{begins_at_all, begins_at_holding}
 use Rattle.straight_walks.proofs.queue.start_states.Goals as goal
 
-pub returns-then-count-le-FEW : goal.returns-then-count-le-FEW
-returns-then-count-le-FEW c = IfOk-weaker c.all_states.result _ _ (λ queue is query between. begins_at_all c.args.hosts.now query queue.items (is query)) c.all_states.ensures
+pub returns-then-count-le-FEW_TOPS : goal.returns-then-count-le-FEW_TOPS
+returns-then-count-le-FEW_TOPS c = IfOk-weaker c.all_states.result _ _ (λ queue is query between. begins_at_all c.args.hosts.now query queue.items (is query)) c.all_states.ensures
 
 pub returns : goal.returns
 returns c =

@@ -7,27 +7,27 @@ use Rattle.straight_walks.proofs.straight.all_ends.Goals as goal
 
 pub passes_referral-requires-clause-within : goal.passes_referral-requires-clause-within
 passes_referral-requires-clause-within c =
-    (subst (λ (all : List Queued). IsNextReferral c.args.hosts.now c.args.query.now all c.loop-ends.passed c.loop-ends.ends c.next_referral.new.ends
+    (subst (λ (all : List Queued). IsNextReferral c.args.asked.hosts.now c.args.asked.name.now all c.loop-ends.passed c.loop-ends.ends c.next_referral.new.ends
     (referring.Refers c.in-Refers.place c.in-Refers.tree c.in-Refers.cut)) c.as_slice.ensures c.in-Refers.ensures).1
 
 pub passes_referral-requires-clause-refers : goal.passes_referral-requires-clause-refers
 passes_referral-requires-clause-refers c =
-    (subst (λ (all : List Queued). IsNextReferral c.args.hosts.now c.args.query.now all c.loop-ends.passed c.loop-ends.ends c.next_referral.new.ends
+    (subst (λ (all : List Queued). IsNextReferral c.args.asked.hosts.now c.args.asked.name.now all c.loop-ends.passed c.loop-ends.ends c.next_referral.new.ends
     (referring.Refers c.in-Refers.place c.in-Refers.tree c.in-Refers.cut)) c.as_slice.ensures c.in-Refers.ensures).2
 
 pub passes_referral-requires-clause-passed : goal.passes_referral-requires-clause-passed
 passes_referral-requires-clause-passed c =
-    (subst (λ (all : List Queued). IsNextReferral c.args.hosts.now c.args.query.now all c.loop-ends.passed c.loop-ends.ends c.next_referral.new.ends
-    (referring.Refers c.in-Refers.place c.in-Refers.tree c.in-Refers.cut)) c.as_slice.ensures c.in-Refers.ensures).3 c.args.sets.now c.loop-ends.invariant
+    (subst (λ (all : List Queued). IsNextReferral c.args.asked.hosts.now c.args.asked.name.now all c.loop-ends.passed c.loop-ends.ends c.next_referral.new.ends
+    (referring.Refers c.in-Refers.place c.in-Refers.tree c.in-Refers.cut)) c.as_slice.ensures c.in-Refers.ensures).3 c.args.asked.sets.now c.loop-ends.invariant
 
 pub loop-ends-preserved : goal.loop-ends-preserved
 loop-ends-preserved c = c.in_ok-passes_referral-in-Refers.ensures c.if-not-branch.false
 
 pub returns-in-Ends : goal.returns-in-Ends
 returns-in-Ends c =
-    let config = c.args.hosts.now in
-    let deps = c.args.sets.now in
-    let query = c.args.query.now in
+    let config = c.args.asked.hosts.now in
+    let deps = c.args.asked.sets.now in
+    let query = c.args.asked.name.now in
     let queue = c.loop-ends.queue in
     let ends_before = c.loop-ends.ends in
     let ends = c.next_referral.new.ends in

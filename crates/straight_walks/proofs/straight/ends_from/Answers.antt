@@ -15,25 +15,25 @@ passes_referral-requires-clause-within c =
 pub passes_referral-requires-clause-refers : goal.passes_referral-requires-clause-refers
 passes_referral-requires-clause-refers c =
     subst (λ (all : List Queued). IfSome (slice_get all c.in-Refers.passed)
-    (λ one. IsReply c.args.hosts.now one.server.now c.args.query.now (reply.Refers c.in-Refers.tree c.in-Refers.cut))) (sym (c.of-queue.ensures ∙ c.in_ok-from_slice-in-Refers.ensures.items))
+    (λ one. IsReply c.args.asked.hosts.now one.server.now c.args.asked.name.now (reply.Refers c.in-Refers.tree c.in-Refers.cut))) (sym (c.of-queue.ensures ∙ c.in_ok-from_slice-in-Refers.ensures.items))
     c.in-Refers.ensures.2
 
 pub passes_referral-requires-clause-passed : goal.passes_referral-requires-clause-passed
 passes_referral-requires-clause-passed c =
-    subst (λ (all : List Queued). HavePassed c.args.hosts.now c.args.sets.now c.args.query.now all c.in-Refers.passed c.next_referral.new.ends)
+    subst (λ (all : List Queued). HavePassed c.args.asked.hosts.now c.args.asked.sets.now c.args.asked.name.now all c.in-Refers.passed c.next_referral.new.ends)
     (sym (c.of-queue.ensures ∙ c.in_ok-from_slice-in-Refers.ensures.items))
-    (c.in-Refers.ensures.3 c.args.sets.now
-    (subst (λ (all : List Queued). HavePassed c.args.hosts.now c.args.sets.now c.args.query.now all c.args.searched.now.passed (unanswered c.args.searched.now.fails))
-    (sym c.as_slice-queue.ensures.value) (begun c.args.hosts.now c.args.sets.now c.args.query.now c.args.searched.now c.requires)))
+    (c.in-Refers.ensures.3 c.args.asked.sets.now
+    (subst (λ (all : List Queued). HavePassed c.args.asked.hosts.now c.args.asked.sets.now c.args.asked.name.now all c.args.searched.now.passed (unanswered c.args.searched.now.fails))
+    (sym c.as_slice-queue.ensures.value) (begun c.args.asked.hosts.now c.args.asked.sets.now c.args.asked.name.now c.args.searched.now c.requires)))
 
 pub all_ends-requires : goal.all_ends-requires
 all_ends-requires c = c.in_ok-passes_referral-in-Refers.ensures c.if-not-branch.false
 
 pub returns-in-Ends : goal.returns-in-Ends
 returns-in-Ends c =
-    let config = c.args.hosts.now in
-    let deps = c.args.sets.now in
-    let query = c.args.query.now in
+    let config = c.args.asked.hosts.now in
+    let deps = c.args.asked.sets.now in
+    let query = c.args.asked.name.now in
     given_within config deps query c.args.limits.rewrites c.args.limits.states (c.args.limits.states + length config.tops) (length c.as_slice-queue.result.now) c.next_referral.new.ends c.ends_within.result c.ends_within.ensures.same c.ends_within.ensures.few c.ends_within.ensures.rewrites
     (λ few. c.in-Ends.ensures deps
     (subst (λ (all : List Queued). HavePassed config deps query all c.args.searched.now.passed (unanswered c.args.searched.now.fails)) (sym c.as_slice-queue.ensures.value)

@@ -21,20 +21,20 @@ refers config query queue place item tree cut within is so =
 pub queue_referrals-requires-clause-inside : goal.queue_referrals-requires-clause-inside
 queue_referrals-requires-clause-inside c =
     let item = get_or c.as_slice.result.now c.args.place c.index-as_slice-place.result in
-    refers_inside c.args.hosts.now c.args.query.now item.server.now c.args.tree c.args.cut
-    (refers c.args.hosts.now c.args.query.now c.args.queue.now c.args.place item c.args.tree c.args.cut c.requires.within (subst (λ (all : List Queued). item ≡ get_or all c.args.place item) c.as_slice.ensures (ap (get_or c.as_slice.result.now c.args.place) c.index-as_slice-place.is)) c.requires.refers)
+    refers_inside c.args.asked.hosts.now c.args.asked.name.now item.server.now c.args.tree c.args.cut
+    (refers c.args.asked.hosts.now c.args.asked.name.now c.args.queue.now c.args.place item c.args.tree c.args.cut c.requires.within (subst (λ (all : List Queued). item ≡ get_or all c.args.place item) c.as_slice.ensures (ap (get_or c.as_slice.result.now c.args.place) c.index-as_slice-place.is)) c.requires.refers)
 
 pub queue_referrals-requires-clause-held : goal.queue_referrals-requires-clause-held
 queue_referrals-requires-clause-held c =
     let item = get_or c.as_slice.result.now c.args.place c.index-as_slice-place.result in
-    refers_held c.args.hosts.now c.args.query.now item.server.now c.args.tree c.args.cut
-    (refers c.args.hosts.now c.args.query.now c.args.queue.now c.args.place item c.args.tree c.args.cut c.requires.within (subst (λ (all : List Queued). item ≡ get_or all c.args.place item) c.as_slice.ensures (ap (get_or c.as_slice.result.now c.args.place) c.index-as_slice-place.is)) c.requires.refers)
+    refers_held c.args.asked.hosts.now c.args.asked.name.now item.server.now c.args.tree c.args.cut
+    (refers c.args.asked.hosts.now c.args.asked.name.now c.args.queue.now c.args.place item c.args.tree c.args.cut c.requires.within (subst (λ (all : List Queued). item ≡ get_or all c.args.place item) c.as_slice.ensures (ap (get_or c.as_slice.result.now c.args.place) c.index-as_slice-place.is)) c.requires.refers)
 
 pub returns : goal.returns
 returns c =
     let item = get_or c.as_slice.result.now c.args.place c.index-as_slice-place.result in
     IfOk-weaker c.queue_referrals.result _ _
     (λ straight so is.
-    referral_passed_for c.args.hosts.now c.args.sets.now c.args.query.now c.args.queue.now c.queue_referrals.new.queue c.args.place c.args.ends.now
+    referral_passed_for c.args.asked.hosts.now c.args.asked.sets.now c.args.asked.name.now c.args.queue.now c.queue_referrals.new.queue c.args.place c.args.ends.now
     c.queue_referrals.new.fails c.args.tree c.args.cut item c.requires.within (subst (λ (all : List Queued). item ≡ get_or all c.args.place item) c.as_slice.ensures (ap (get_or c.as_slice.result.now c.args.place) c.index-as_slice-place.is)) c.requires.refers c.requires.passed (so is))
     c.queue_referrals.ensures

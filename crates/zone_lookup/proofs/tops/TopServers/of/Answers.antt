@@ -1,29 +1,45 @@
-use Rattle.std.proofs.Common.{◌≡◌, ℕ, List, length, map, Some, refl, sym, ap, subst, arith}
-use Rattle.std.specs.Prelude.{slice_get}
-use Rattle.std.proofs.lemmas.Option.{slice_get_read}
+use Rattle.std.proofs.Common.{List, [], ◌∷◌, ◌++◌, Bor, map, take, sym, ap, ◌∙◌, subst}
+use Rattle.std.proofs.lemmas.List.{take_all, take_more}
 use Rattle.dns_data.specs.Name.{Labels}
 use Rattle.net_model.specs.declared.config.Config.{Config}
-use Rattle.net_model.specs.declared.config.Zone.{Zone}
-use Rattle.zone_lookup.specs.Tops.{HoldsThese, ListsTops}
-use Rattle.zone_lookup.proofs.TopsHolding.{lists_more, lists_none, none_listed}
+use Rattle.zone_lookup.specs.Tops.{ListsTops, with_tops}
+use Rattle.zone_lookup.proofs.TopsHolding.{lists_none, none_listed}
 use Rattle.zone_lookup.proofs.tops.TopServers.of.Goals as goal
 
-pub loop-place-init : goal.loop-place-init
-loop-place-init c = lists_none _ c.new-places.result (none_listed c.new-places.result c.new-places.ensures.empty)
+-- the names to which references lead
+names : List (Bor Labels) → List Labels
+names tops = map (λ (top : Bor Labels). top.now) tops
 
-pub loop-place-preserved : goal.loop-place-preserved
-loop-place-preserved c =
-    let config = c.config-config.result.now in
-    let top = c.index-tops-place.result in
-    let tops = c.items-tops.result.now in
-    lists_more config c.loop-place.place top (map (λ (zone : Zone). zone.origin) c.zones_of.result.now) c.loop-place.places c.list_zones.new.places
-    (subst (λ (all : List Labels). slice_get all c.loop-place.place ≡ Some top) c.items-tops.ensures
-    (slice_get_read tops (length tops) c.loop-place.place top refl c.loop-place-test.true c.index-tops-place.is))
-    (subst (λ (k : Config). HoldsThese k top (map (λ (zone : Zone). zone.origin) c.zones_of.result.now)) (sym c.config-config.ensures) c.zones_of.ensures)
-    c.loop-place.invariant c.in_ok-list_zones.ensures
+pub loop-top-init : goal.loop-top-init
+unfolding names
+loop-top-init c =
+    let hosts = c.args.hosts.now in
+    let places = c.new-places.result in (
+      ap names c.new-tops.ensures.items,
+      subst (λ (tops : List (Bor Labels)). ListsTops (with_tops hosts (names tops)) places) (sym c.new-tops.ensures.items)
+          (lists_none hosts places (none_listed places c.new-places.ensures.empty)),
+    )
+
+pub loop-top-preserved : goal.loop-top-preserved
+loop-top-preserved c =
+    let hosts = c.args.hosts.now in
+    let items = c.items-top-items.result.now in
+    let index = c.loop-top.top-index in
+    let top = c.top-item.result in (
+      c.in_ok-list_top.ensures.tops
+          ∙ ap (λ (tops : List Labels). tops ++ top ∷ []) c.loop-top.invariant.0
+          ∙ ap (λ (one : Labels). take index items ++ one ∷ []) c.top-item.is
+          ∙ sym (take_more items index top c.loop-top-test.true),
+      subst (λ (tops : List Labels). ListsTops (with_tops hosts tops) c.list_top.new.places) (sym c.in_ok-list_top.ensures.tops) c.in_ok-list_top.ensures.places,
+    )
 
 pub invariant_of-result : goal.invariant_of-result
+unfolding names
 invariant_of-result c =
-    let all : c.loop-place.place ≡ length c.config-config.result.now.tops =
-    omega (arith, c.loop-place-test.false, c.loop-place.auto.place-end, ap (λ (tops : List Labels). length tops) c.items-tops.ensures) in
-    subst (λ (bound : ℕ). ListsTops c.config-config.result.now bound c.loop-place.places) all c.loop-place.invariant
+    subst (λ (config : Config). ListsTops (with_tops config (names c.loop-top.tops.items)) c.loop-top.places) (sym c.config-config.ensures) c.loop-top.invariant.1
+
+pub returns : goal.returns
+returns c =
+    ap (with_tops c.config-config.result.now)
+    (c.loop-top.invariant.0 ∙ take_all c.loop-top.top-index c.items-top-items.result.now c.loop-top-test.false ∙ c.items-top-items.ensures)
+    ∙ c.config-config.ensures
