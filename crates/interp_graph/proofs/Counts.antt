@@ -1,105 +1,97 @@
--- The pairs that come to drafts: how many they are, and that they differ.
-use Rattle.std.proofs.Common.{◌≡◌, ◌≢◌, ℕ, ◌+◌, ◌<◌, Bool, true, false, cond, ◌||◌, List, [], ◌∷◌, map, length, get_or, subst, refl, sym, ap, ◌∙◌, arith, true≢false, length-append, filter}
-use Rattle.std.specs.Prelude.{Contains, AllPairs}
-use Rattle.std.specs.List.{flat_map, sum_by}
-use Rattle.std.proofs.lemmas.List.{length-map}
-use Rattle.std.proofs.lemmas.List.Sums.{sum_by-cons}
-use Rattle.dns_data.specs.TypeSet.{has_bit}
+-- The pairs of listed states with the types that reach them: how many they are, and that they differ.
+use Rattle.std.proofs.Common.{◌≡◌, ◌≢◌, ℕ, zero, suc, ◌+◌, ◌*◌, ◌<◌, ◌≤◌, Bool, true, List, [], ◌∷◌, ◌++◌, map, length, Some, refl, sym, ap, ◌∙◌, subst, inl, inr, length-append, filter, arith}
+use Rattle.std.specs.Prelude.{AllPairs, Contains, slice_get}
+use Rattle.std.proofs.lemmas.List.Elements.{Contains-append_cases, Contains-append_left, Contains-append_right}
 use Rattle.dns_data.specs.RrType.{types}
+use Rattle.dns_data.specs.TypeSet.{has_bit}
 use Rattle.dns_data.specs.declared.rr_type.RrType.{RrType}
-use Rattle.dns_data.proofs.Membership.{from_map, from_filter, from_flat_map, along}
-use Rattle.net_model.specs.Step.{Setting}
+use Rattle.dns_data.proofs.Membership.{along, filter_has, from_filter, from_map, map_has, none_in_nil, pairs_first, pairs_rest}
+use Rattle.dns_data.proofs.Sets.{bit_of}
 use Rattle.net_model.specs.Tree.{HasMoreThan}
 use Rattle.net_model.specs.declared.walk.State.{State}
-use Rattle.graph_form.proofs.Places.{pairs_in_row, place_of_item}
-use Rattle.graph_form.proofs.Reached.{arm_differs, Differ}
-use Rattle.graph_form.specs.declared.node.Arm.{Arm}
-use Rattle.interp_graph.specs.Drafts.{Comes, AreDrafts, size_of, pair_count, Draft}
-use Rattle.interp_graph.specs.Growing.{TakesTypes}
+use Rattle.graph_form.specs.Graph.{arm_pairs}
+use Rattle.graph_form.proofs.Places.{item_there, pairs_joined}
+use Rattle.graph_form.proofs.Reached.{Differ, arm_differs, every_type}
+use Rattle.interp_graph.specs.Listed.{but_cname, every}
+use Rattle.interp_graph.specs.Making.{later, typed, typed_now}
 
--- what passes one of two tests is as many as what passes each of them, if nothing passes both
-pub counted : {X : Type 0} (f g h : X → Bool) (xs : List X) → ((x : X) → h x ≡ (f x || g x)) → ((x : X) → g x ≡ true → f x ≡ false)
-    → length (filter h xs) ≡ length (filter f xs) + length (filter g xs)
-counted f g h [] both apart = refl
-counted f g h (x ∷ xs) both apart = by (f x) (g x) (h x) refl refl (both x) (counted f g h xs both apart) where
-  by : (a b c : Bool) → f x ≡ a → g x ≡ b → c ≡ (f x || g x) → length (filter h xs) ≡ length (filter f xs) + length (filter g xs)
-      → length (cond c (x ∷ filter h xs) (filter h xs)) ≡ length (cond a (x ∷ filter f xs) (filter f xs)) + length (cond b (x ∷ filter g xs) (filter g xs))
-  by a b c is_a is_b is_c rest = of a b c is_a is_b (is_c ∙ (ap (λ z. z || g x) is_a ∙ ap (λ z. a || z) is_b)) rest where
-    of : (a b c : Bool) → f x ≡ a → g x ≡ b → c ≡ (a || b) → length (filter h xs) ≡ length (filter f xs) + length (filter g xs)
-        → length (cond c (x ∷ filter h xs) (filter h xs)) ≡ length (cond a (x ∷ filter f xs) (filter f xs)) + length (cond b (x ∷ filter g xs) (filter g xs))
-    of true true c is_a is_b is_c rest = absurd (true≢false (sym is_a ∙ apart x is_b))
-    of true false true is_a is_b is_c rest = omega (arith, rest)
-    of true false false is_a is_b is_c rest = absurd (true≢false (sym is_c))
-    of false true true is_a is_b is_c rest = omega (arith, rest)
-    of false true false is_a is_b is_c rest = absurd (true≢false (sym is_c))
-    of false false true is_a is_b is_c rest = absurd (true≢false is_c)
-    of false false false is_a is_b is_c rest = rest
+-- the pairs of a state with these types
+abbrev row : (RrType → Bool) → State → List (State × RrType)
+row among state = arm_pairs state (record { types = map among types; branches = [] })
 
--- a draft to which types come has as many more as are new
-pub more_types : (before after : Draft) (newly : List Bool) → TakesTypes before after newly
-    → size_of after.wanted ≡ size_of before.wanted + size_of newly
-more_types before after newly takes =
-    counted (has_bit before.wanted) (has_bit newly) (has_bit after.wanted) types takes.wanted takes.new
+row_has : (among : RrType → Bool) (state : State) (rtype : RrType) → among rtype ≡ true → Contains (row among state) (state, rtype)
+row_has among state rtype is =
+    let make : RrType → State × RrType = λ t. (state, t) in
+    map_has make (filter (has_bit (map among types)) types) rtype (filter_has (has_bit (map among types)) types rtype (every_type rtype) (bit_of among rtype ∙ is))
 
--- ---- the pairs
+from_row_of : (among : RrType → Bool) (state : State) (pair : State × RrType) → Contains (row among state) pair → (state ≡ pair.0) × (among pair.1 ≡ true)
+from_row_of among state pair has =
+    let make : RrType → State × RrType = λ t. (state, t) in
+    let (rtype, of, same) = from_map make (filter (has_bit (map among types)) types) pair has in (
+      ap (λ (p : State × RrType). p.0) same,
+      ap among (sym (ap (λ (p : State × RrType). p.1) same)) ∙ (sym (bit_of among rtype) ∙ (from_filter (has_bit (map among types)) types rtype of).1),
+    )
 
--- the pairs of a draft: its state with each type that comes to it
-abbrev pub draft_pairs : Draft → List (State × RrType)
-draft_pairs draft = map (λ rtype. (draft.state, rtype)) (filter (has_bit draft.wanted) types)
+-- the pairs of states: of so many first ones with all types, and of the others with all but CNAME
+abbrev pub pairs_listed : ℕ → List State → List (State × RrType)
+pairs_listed first [] = []
+pairs_listed first (state ∷ states) = row (typed_now first) state ++ pairs_listed (later first) states
 
--- the pairs of all drafts: each state with each type that comes to it
-abbrev pub wanted_pairs : List Draft → List (State × RrType)
-wanted_pairs drafts = flat_map draft_pairs drafts
+-- they are eleven for each state, and one more for each of the first ones
+pub many_listed : (first : ℕ) (states : List State) → first ≤ length states → length (pairs_listed first states) ≡ 11 * length states + first
+many_listed zero [] few = omega arith
+many_listed (suc first) [] few = absurd (omega (arith, few))
+many_listed zero (state ∷ states) few =
+    omega (arith, length-append (row but_cname state) (pairs_listed zero states), eleven, many_listed zero states (omega arith))
+  where
+    eleven : length (row but_cname state) ≡ 11
+    eleven = refl
+many_listed (suc first) (state ∷ states) few =
+    omega (arith, length-append (row every state) (pairs_listed first states), twelve, many_listed first states (omega (arith, few)))
+  where
+    twelve : length (row every state) ≡ 12
+    twelve = refl
 
--- lists in a row have as many items as they have together
-in_a_row : {A B : Type 0} (f : A → List B) (many : A → ℕ) → ((x : A) → length (f x) ≡ many x) → (xs : List A)
-    → length (flat_map f xs) ≡ sum_by many xs
-in_a_row f many each [] = refl
-in_a_row f many each (x ∷ xs) =
-    length-append (f x) (flat_map f xs)
-    ∙ (ap (λ n. n + length (flat_map f xs)) (each x) ∙ (ap (λ n. many x + n) (in_a_row f many each xs) ∙ sym (sum_by-cons many x xs)))
+-- a state has its pair with each type that reaches it
+pub listed_has : (first : ℕ) (states : List State) (at : ℕ) (state : State) (rtype : RrType) → slice_get states at ≡ Some state → typed first at rtype ≡ true
+    → Contains (pairs_listed first states) (state, rtype)
+listed_has first [] at state rtype is reaches = cc
+listed_has first (s ∷ states) zero state rtype is reaches =
+    let same : s ≡ state = cc in
+    Contains-append_left (row (typed_now first) s) (pairs_listed (later first) states) (state, rtype)
+    (subst (λ (one : State). Contains (row (typed_now first) s) (one, rtype)) same (row_has (typed_now first) s rtype reaches))
+listed_has first (s ∷ states) (suc at) state rtype is reaches =
+    Contains-append_right (row (typed_now first) s) (pairs_listed (later first) states) (state, rtype) (listed_has (later first) states at state rtype is reaches)
 
--- the drafts have as many pairs as are counted
-pub many_pairs : (drafts : List Draft) → length (wanted_pairs drafts) ≡ pair_count drafts
-many_pairs drafts =
-    in_a_row draft_pairs (λ draft. size_of draft.wanted)
-    (λ draft. let pair : RrType → State × RrType = λ rtype. (draft.state, rtype) in length-map (filter (has_bit draft.wanted) types) pair) drafts
+-- and there are no other pairs
+pub from_listed : (first : ℕ) (states : List State) (pair : State × RrType) → Contains (pairs_listed first states) pair
+    → (at : ℕ) × (slice_get states at ≡ Some pair.0) × (typed first at pair.1 ≡ true)
+from_listed first [] pair has = absurd (none_in_nil pair has)
+from_listed first (s ∷ states) pair has =
+    elim (Contains-append_cases (row (typed_now first) s) (pairs_listed (later first) states) pair has) [
+      | inl here ↦ (let of = from_row_of (typed_now first) s pair here in (0, ap Some of.0, of.1))
+      | inr behind ↦ (let of = from_listed (later first) states pair behind in (suc of.0, of.1, of.2))
+    ]
 
-state_told : (draft : Draft) (pair : State × RrType) → Contains (draft_pairs draft) pair → draft.state ≡ pair.0
-state_told draft pair has =
-    let make : RrType → State × RrType = λ rtype. (draft.state, rtype) in
-    let from = from_map make (filter (has_bit draft.wanted) types) pair has in
-    ap (λ (p : State × RrType). p.0) from.2
+-- no pair stands twice, if no two states are equal
+pub listed_differ : (first : ℕ) (states : List State) → AllPairs (λ a b. a ≢ b) states → AllPairs Differ (pairs_listed first states)
+listed_differ first [] once = λ i j d before within. absurd (omega arith)
+listed_differ first (state ∷ states) once =
+    pairs_joined Differ (row (typed_now first) state) (pairs_listed (later first) states) (arm_differs state (record { types = map (typed_now first) types; branches = [] }))
+    (listed_differ (later first) states (pairs_rest (λ a b. a ≢ b) state states once))
+    (λ y z here there same.
+    let of = from_listed (later first) states z there in
+    pairs_first (λ a b. a ≢ b) state states once z.0 (item_there states of.0 z.0 of.1)
+    ((from_row_of (typed_now first) state y here).0 ∙ ap (λ (p : State × RrType). p.0) same))
 
--- the drafts have no pair twice, if no two have equal states
-pub pairs_differ : (drafts : List Draft) → AllPairs (λ (a b : Draft). a.state ≢ b.state) drafts → AllPairs Differ (wanted_pairs drafts)
-pairs_differ drafts once =
-    pairs_in_row Differ draft_pairs drafts
-    (λ draft has. let arm : Arm = record { types = draft.wanted; branches = [] } in arm_differs draft.state arm)
-    (λ i j d lt within y z here there same.
-    once i j d lt within
-    (state_told (get_or drafts i d) y here
-    ∙ (ap (λ (p : State × RrType). p.0) same ∙ sym (state_told (get_or drafts j d) z there))))
-
--- each pair of the drafts comes from where the query begins
-pub each_comes : (setting : Setting) (begin : List State) (drafts : List Draft) → AreDrafts setting begin drafts
-    → (pair : State × RrType) → Contains (wanted_pairs drafts) pair → Comes setting begin pair.1 pair.0
-each_comes setting begin drafts are pair has =
-    let of = from_flat_map draft_pairs drafts pair has in
-    let at = place_of_item drafts of.0 of.1 in
-    let make : RrType → State × RrType = λ rtype. (of.0.state, rtype) in
-    let typed = from_map make (filter (has_bit of.0.wanted) types) pair of.2 in
-    let wanted = (from_filter (has_bit of.0.wanted) types typed.0 typed.1).1 in
-    subst (λ (p : State × RrType). Comes setting begin p.1 p.0) typed.2 (are.comes at.0 of.0 typed.0 at.1 wanted)
-
--- if the drafts have more pairs than the limit, more than so many are reached
-pub more_reached : (setting : Setting) (begin : List State) (drafts : List Draft) (limit : ℕ) → AreDrafts setting begin drafts
-    → AllPairs (λ (a b : Draft). a.state ≢ b.state) drafts → limit < pair_count drafts
-    → (P : State × RrType → Type 0) → ((pair : State × RrType) → Comes setting begin pair.1 pair.0 → P pair) → HasMoreThan P limit
-more_reached setting begin drafts limit are once more P reached =
+-- if each state comes with each type that reaches it, so many pairs do
+pub many_come : (P : State × RrType → Type 0) (first limit : ℕ) (states : List State) → first ≤ length states → AllPairs (λ a b. a ≢ b) states
+    → limit < 11 * length states + first
+    → ((at : ℕ) (state : State) (rtype : RrType) → slice_get states at ≡ Some state → typed first at rtype ≡ true → P (state, rtype)) → HasMoreThan P limit
+many_come P first limit states few once more come =
     record {
-      items = wanted_pairs drafts;
-      more = omega (arith, many_pairs drafts, more);
-      differ = pairs_differ drafts once;
-      each = along P (wanted_pairs drafts) (λ pair has. reached pair (each_comes setting begin drafts are pair has));
+      items = pairs_listed first states;
+      more = omega (arith, many_listed first states few, more);
+      differ = listed_differ first states once;
+      each = along P (pairs_listed first states) (λ pair has. let of = from_listed first states pair has in come of.0 pair.0 pair.1 of.1 of.2);
     }

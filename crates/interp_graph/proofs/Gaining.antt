@@ -1,5 +1,5 @@
 -- Nodes gain types, one after another.
-use Rattle.std.proofs.Common.{◌≡◌, ◌≢◌, ℕ, zero, suc, ◌+◌, ◌*◌, ◌<◌, ◌≤◌, Bool, true, false, not, List, [], ◌∷◌, ◌++◌, filter, length, take, get_or, Some, refl, sym, ap, ◌∙◌, subst, inl, inr, true≢false, arith}
+use Rattle.std.proofs.Common.{◌≡◌, ◌≢◌, ℕ, zero, suc, ◌+◌, ◌*◌, ◌<◌, ◌≤◌, Bool, true, false, cond, not, List, [], ◌∷◌, ◌++◌, filter, length, take, get_or, Some, refl, sym, ap, ◌∙◌, subst, inl, inr, true≢false, arith}
 use Rattle.std.specs.Prelude.{◌⊎◌, ◌&&◌, ◌||◌, Contains, slice_get, set}
 use Rattle.std.specs.Option.{option_map_or}
 use Rattle.std.proofs.lemmas.Bool.{and_from, and_parts, cases_eq, not-true, or_cases, or_left, or_right}
@@ -12,11 +12,27 @@ use Rattle.dns_data.specs.TypeSet.{has_bit}
 use Rattle.dns_data.specs.declared.rr_type.RrType.{RrType}
 use Rattle.dns_data.proofs.Membership.{none_in_nil, has_first, first_or_later, filter_has}
 use Rattle.graph_form.proofs.Reached.{every_type}
-use Rattle.interp_graph.specs.Drafts.{size_of}
-use Rattle.interp_graph.specs.Restricted.{has_type, many_types, Gains, ForOne}
+use Rattle.interp_graph.specs.Restricted.{size_of, has_type, many_types, Gains, ForOne}
 use Rattle.interp_graph.specs.declared.reached.Reaching.{Reaching}
-use Rattle.interp_graph.proofs.Counts.{counted}
 use Rattle.interp_graph.proofs.ItemsByNumber.{set_there}
+
+-- what passes one of two tests is as many as what passes each of them, if nothing passes both
+counted : {X : Type 0} (f g h : X → Bool) (xs : List X) → ((x : X) → h x ≡ (f x || g x)) → ((x : X) → g x ≡ true → f x ≡ false)
+    → length (filter h xs) ≡ length (filter f xs) + length (filter g xs)
+counted f g h [] both apart = refl
+counted f g h (x ∷ xs) both apart = by (f x) (g x) (h x) refl refl (both x) (counted f g h xs both apart) where
+  by : (a b c : Bool) → f x ≡ a → g x ≡ b → c ≡ (f x || g x) → length (filter h xs) ≡ length (filter f xs) + length (filter g xs)
+      → length (cond c (x ∷ filter h xs) (filter h xs)) ≡ length (cond a (x ∷ filter f xs) (filter f xs)) + length (cond b (x ∷ filter g xs) (filter g xs))
+  by a b c is_a is_b is_c rest = of a b c is_a is_b (is_c ∙ (ap (λ z. z || g x) is_a ∙ ap (λ z. a || z) is_b)) rest where
+    of : (a b c : Bool) → f x ≡ a → g x ≡ b → c ≡ (a || b) → length (filter h xs) ≡ length (filter f xs) + length (filter g xs)
+        → length (cond c (x ∷ filter h xs) (filter h xs)) ≡ length (cond a (x ∷ filter f xs) (filter f xs)) + length (cond b (x ∷ filter g xs) (filter g xs))
+    of true true c is_a is_b is_c rest = absurd (true≢false (sym is_a ∙ apart x is_b))
+    of true false true is_a is_b is_c rest = omega (arith, rest)
+    of true false false is_a is_b is_c rest = absurd (true≢false (sym is_c))
+    of false true true is_a is_b is_c rest = omega (arith, rest)
+    of false true false is_a is_b is_c rest = absurd (true≢false (sym is_c))
+    of false false true is_a is_b is_c rest = absurd (true≢false is_c)
+    of false false false is_a is_b is_c rest = rest
 
 -- ---- one change after another
 

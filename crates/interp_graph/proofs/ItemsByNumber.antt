@@ -1,9 +1,11 @@
--- Items of lists by their numbers, where an item is put behind others or over another; and lists that stand side by side.
-use Rattle.std.proofs.Common.{◌≡◌, ◌≢◌, ℕ, zero, suc, ◌<◌, List, [], ◌∷◌, ◌++◌, map, length, get_or, Some, refl, ap, subst, inl, inr, arith}
+-- Items of lists by their numbers, where items are put behind others or one over another; and lists that stand side by side.
+use Rattle.std.proofs.Common.{◌≡◌, ℕ, zero, suc, ◌<◌, ◌≤◌, List, [], ◌∷◌, ◌++◌, map, length, get_or, Some, refl, sym, ap, ◌∙◌, subst, inl, inr, arith}
 use Rattle.std.specs.Prelude.{◌⊎◌, AllPairs, Contains, slice_get, set}
 use Rattle.std.specs.List.{AllZip}
 use Rattle.std.proofs.lemmas.List.{length-map, get_or-map}
+use Rattle.std.proofs.lemmas.Option.{same_Some, slice_get-get_or}
 use Rattle.dns_data.proofs.Membership.{none_in_nil, has_first, has_later, first_or_later}
+use Rattle.graph_form.proofs.Places.{item_there}
 
 module _ {A : Type 0} where
   -- an item of a list with one more is an item of the list, or the one put behind it
@@ -18,6 +20,16 @@ module _ {A : Type 0} where
         | inr new ↦ inr (ap suc new.0, new.1)
       ]
 
+  -- an item of two lists in a row is one of the first with its number, or one of the second
+  pub from_row : (xs ys : List A) (y : A) (k : ℕ) → slice_get (xs ++ ys) k ≡ Some y → (slice_get xs k ≡ Some y) ⊎ ((length xs ≤ k) × Contains ys y)
+  from_row [] ys y k e = inr (omega arith, item_there ys k y e)
+  from_row (x ∷ xs) ys y zero e = inl e
+  from_row (x ∷ xs) ys y (suc k) e =
+      elim (from_row xs ys y k e) [
+        | inl there ↦ inl there
+        | inr behind ↦ inr (omega (arith, behind.0), behind.1)
+      ]
+
   -- the items of a list keep their numbers if others are put behind it
   pub in_front : (xs ys : List A) (k : ℕ) (x : A) → slice_get xs k ≡ Some x → slice_get (xs ++ ys) k ≡ Some x
   in_front [] ys k x e = cc
@@ -29,38 +41,25 @@ module _ {A : Type 0} where
   pushed_there [] x = refl
   pushed_there (z ∷ xs) x = pushed_there xs x
 
-  -- an item of a list with one changed is the changed one, or one with another number
-  pub from_set : (xs : List A) (i k : ℕ) (x y : A) → slice_get (set xs i x) k ≡ Some y
-      → ((k ≡ i) × (x ≡ y)) ⊎ ((k ≢ i) × (slice_get xs k ≡ Some y))
-  from_set [] i k x y e = cc
-  from_set (z ∷ xs) zero zero x y e = let same : x ≡ y = cc in inl (refl, same)
-  from_set (z ∷ xs) zero (suc k) x y e = inr ((λ h. omega (arith, h)), e)
-  from_set (z ∷ xs) (suc i) zero x y e = inr ((λ h. omega (arith, h)), e)
-  from_set (z ∷ xs) (suc i) (suc k) x y e =
-      elim (from_set xs i k x y e) [
-        | inl same ↦ inl (ap suc same.0, same.1)
-        | inr other ↦ inr ((λ h. other.0 (let g : k ≡ i = omega (arith, h) in g)), other.1)
-      ]
-
   -- an item that is put over another has the other's number
   pub set_there : (xs : List A) (i : ℕ) (x y : A) → slice_get xs i ≡ Some y → slice_get (set xs i x) i ≡ Some x
   set_there [] i x y e = cc
   set_there (z ∷ xs) zero x y e = refl
   set_there (z ∷ xs) (suc i) x y e = set_there xs i x y e
 
-  -- if an item is put over another, items with other numbers stay
-  pub set_elsewhere : (xs : List A) (i k : ℕ) (x y : A) → k ≢ i → slice_get xs k ≡ Some y → slice_get (set xs i x) k ≡ Some y
-  set_elsewhere [] i k x y other e = cc
-  set_elsewhere (z ∷ xs) zero zero x y other e = absurd (other refl)
-  set_elsewhere (z ∷ xs) zero (suc k) x y other e = e
-  set_elsewhere (z ∷ xs) (suc i) zero x y other e = e
-  set_elsewhere (z ∷ xs) (suc i) (suc k) x y other e = set_elsewhere xs i k x y (λ h. other (ap suc h)) e
-
   -- a number below the length has an item
   pub item_below : (xs : List A) (k : ℕ) → k < length xs → (x : A) × (slice_get xs k ≡ Some x)
   item_below [] k below = absurd (omega (arith, below))
   item_below (x ∷ xs) zero below = (x, refl)
   item_below (x ∷ xs) (suc k) below = item_below xs k (omega (arith, below))
+
+  -- an item below the length stands with its number
+  pub item_is : (xs : List A) (i : ℕ) (x : A) → i < length xs → x ≡ get_or xs i x → slice_get xs i ≡ Some x
+  item_is xs i x below is = slice_get-get_or xs i x below ∙ ap Some (sym is)
+
+  -- items of a list with the same number are equal
+  pub one_there : (xs : List A) (k : ℕ) (x y : A) → slice_get xs k ≡ Some x → slice_get xs k ≡ Some y → x ≡ y
+  one_there xs k x y one other = same_Some x y (sym one ∙ other)
 
 module _ {A B : Type 0} where
   -- an item of a mapped list is the image of the item with its number
@@ -75,6 +74,22 @@ module _ {A B : Type 0} where
   mapped_there f [] k x e = cc
   mapped_there f (y ∷ xs) zero x e = let same : y ≡ x = cc in ap (λ z. Some (f z)) same
   mapped_there f (y ∷ xs) (suc k) x e = mapped_there f xs k x e
+
+  -- what holds of a list and images of another side by side
+  pub beside_images : {C : Type 0} (R : A → C → Type 0) (f : B → C) (xs : List A) (ys : List B) → AllZip (λ x y. R x (f y)) xs ys → AllZip R xs (map f ys)
+  beside_images R f [] [] all = tt
+  beside_images R f [] (y ∷ ys) all = absurd all
+  beside_images R f (x ∷ xs) [] all = absurd all
+  beside_images R f (x ∷ xs) (y ∷ ys) all = (all.0, beside_images R f xs ys all.1)
+
+  -- of lists side by side the images are one list, if those of two items beside each other are equal
+  pub same_images : {C : Type 0} (R : A → B → Type 0) (f : A → C) (g : B → C) → ((x : A) (y : B) → R x y → f x ≡ g y) → (xs : List A) (ys : List B)
+      → AllZip R xs ys → map f xs ≡ map g ys
+  same_images R f g same [] [] all = refl
+  same_images R f g same [] (y ∷ ys) all = absurd all
+  same_images R f g same (x ∷ xs) [] all = absurd all
+  same_images R f g same (x ∷ xs) (y ∷ ys) all =
+      ap (λ z. z ∷ map f xs) (same x y all.0) ∙ ap (λ zs. g y ∷ zs) (same_images R f g same xs ys all.1)
 
   -- what holds of two lists side by side may say less
   pub side_by_side : (R S : A → B → Type 0) (xs : List A) (ys : List B) → ((x : A) (y : B) → R x y → S x y) → AllZip R xs ys → AllZip S xs ys

@@ -79,12 +79,3 @@ key_taken before after key number is_new new made stored = by (list_any (state_e
         | inr fresh ↦ fresh.0
       ] in
       subst (TakesKey before after key number) (sym (new ∙ ap not among)) (behind, last)
-
-module _ (before after : List State) (key : State) (number : ℕ) (is_new : Bool) (taken : TakesKey before after key number is_new) where
-  -- a new key goes behind the others, and has the next number
-  pub new_key : is_new ≡ true → (after ≡ before ++ key ∷ []) × (number ≡ length before)
-  new_key new = subst (TakesKey before after key number) new taken
-
-  -- a key that isn't new stands with its number in the table, which stays as it was
-  pub old_key : is_new ≡ false → (after ≡ before) × (slice_get before number ≡ Some key)
-  old_key old = subst (TakesKey before after key number) old taken

@@ -6,7 +6,7 @@ use Rattle.dns_data.specs.Name.{Labels, is_prefix}
 use Rattle.dns_data.specs.declared.rr_type.RrType.{RrType}
 use Rattle.net_model.specs.Lookup.{found}
 use Rattle.net_model.specs.Nearest.{is_configured, nearest_of, server_names}
-use Rattle.net_model.specs.Step.{Setting, Branch, Go, End, following, may_follow, arrived, delegated, referred, servers_after, rewritten, after_lookup, in_zone, next}
+use Rattle.net_model.specs.Step.{Setting, Branch, Go, End, following, may_follow, arrived, delegated, referred, servers_after, after_lookup, in_zone, next}
 use Rattle.net_model.specs.declared.config.Config.{Config}
 use Rattle.net_model.specs.declared.config.Zone.{Zone}
 use Rattle.net_model.specs.declared.found.Found.{Found}
@@ -16,7 +16,7 @@ use Rattle.net_model.specs.declared.place.Place.{Place}
 use Rattle.net_model.specs.declared.walk.Hop.{Hop}
 use Rattle.net_model.specs.declared.walk.Hop.TheVariants.{Refer, Rewrite}
 use Rattle.net_model.specs.declared.walk.Leaf.{Leaf}
-use Rattle.net_model.specs.declared.walk.Leaf.TheVariants.{Lame, Limit, NoAddress, Overlong, Unhosted}
+use Rattle.net_model.specs.declared.walk.Leaf.TheVariants.{Lame, NoAddress, Unhosted}
 use Rattle.net_model.specs.declared.walk.State.{State}
 use Rattle.net_model.proofs.Followed.{names_follow_all}
 use Rattle.interp_graph.specs.Restricted.{shut, restricted}
@@ -94,18 +94,9 @@ module _ (config : Config) (rewrites : ℕ) (followed : List Labels) (state : St
   looked_up origin found_as.NxDomain = refl
   looked_up origin (found_as.Referral cut names) = referrals origin cut names
   looked_up origin (found_as.Rewrite by_dname owner to) =
-      either (nat_lt state.used rewrites)
-      (rewritten config state (record { server = state.server; zone = origin; owner = owner }) by_dname to)
-      (End None (Limit (record { server = state.server; zone = origin; owner = owner })) ∷ [])
-      (rewritten config state (record { server = state.server; zone = origin; owner = owner }) by_dname to)
-      (End None (Limit (record { server = state.server; zone = origin; owner = owner })) ∷ [])
+      either (nat_lt state.used rewrites) _ _ _ _
       (rewrites_same (record { server = state.server; zone = origin; owner = owner }) by_dname to (servers_after config state to)) refl
-  looked_up origin (found_as.TooLong owner) =
-      either (nat_lt state.used rewrites)
-      (End None (Overlong (record { server = state.server; zone = origin; owner = owner })) ∷ [])
-      (End None (Limit (record { server = state.server; zone = origin; owner = owner })) ∷ [])
-      (End None (Overlong (record { server = state.server; zone = origin; owner = owner })) ∷ [])
-      (End None (Limit (record { server = state.server; zone = origin; owner = owner })) ∷ []) refl refl
+  looked_up origin (found_as.TooLong owner) = either (nat_lt state.used rewrites) _ _ _ _ refl refl
 
   -- what a state leads to while some servers are followed is what it leads to while all are, each branch restricted
   pub next_restricted : (rtype : RrType) → next some rtype state ≡ map change (next all rtype state)

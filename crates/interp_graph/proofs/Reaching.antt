@@ -10,7 +10,7 @@ use Rattle.net_model.specs.declared.walk.Leaf.{Leaf}
 use Rattle.graph_form.specs.declared.node.Node.{Node}
 use Rattle.interp_graph.specs.Restricted.{LeadsTo, has_type, AreSound, many_types, Gains, ForOne, ArmLeads}
 use Rattle.interp_graph.specs.declared.reached.Reaching.{Reaching}
-use Rattle.interp_graph.proofs.Changes.{one_there}
+use Rattle.interp_graph.proofs.ItemsByNumber.{one_there}
 
 module _ (ends : Hop → Option Leaf) (nodes : List Node) where
   -- an arm of a node that leads on with one of the node's types leads to the next node

@@ -29,14 +29,11 @@ use Rattle.graph_form.specs.declared.node.Branch.TheVariants.{Go, End}
 use Rattle.graph_form.specs.declared.node.Node.{Node}
 use Rattle.graph_form.proofs.Places.{found_there, place_of_item}
 use Rattle.graph_form.proofs.Reached.{pair_there, pairs_once}
-use Rattle.interp_graph.specs.Drafts.{Comes}
+use Rattle.interp_graph.specs.Listed.{Comes}
 use Rattle.interp_graph.specs.Restricted.{shut, restricted, limited, LeadsTo, ComesOver, has_type, AreReached, IsLimitedArm, LimitedAt, AreLimited}
-use Rattle.interp_graph.proofs.Arming.{comes_on}
-use Rattle.interp_graph.proofs.Beginning.{begins}
-use Rattle.interp_graph.proofs.Changes.{one_there}
-use Rattle.interp_graph.proofs.ItemsByNumber.{side_by_side, beside, beside_other}
+use Rattle.interp_graph.proofs.ItemsByNumber.{one_there, side_by_side, beside, beside_other}
 use Rattle.interp_graph.proofs.NextRestricted.{next_restricted}
-use Rattle.interp_graph.proofs.Standing.{comes_stand}
+use Rattle.interp_graph.proofs.Standing.{begins, comes_on, comes_stand}
 
 -- ---- branches while hops end
 

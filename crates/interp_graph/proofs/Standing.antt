@@ -1,18 +1,51 @@
--- What comes from where a query begins stands on a walk of it.
-use Rattle.std.proofs.Common.{◌≡◌, ◌≢◌, ℕ, List, [], ◌∷◌, ◌++◌, map, length, Some, None, true, sym, ap, ◌∙◌, subst, inl, inr, ◌==◌}
+-- What comes from where a query begins: its first states, and those to which steps lead on; and that it stands on a walk.
+use Rattle.std.proofs.Common.{◌≡◌, ◌≢◌, ℕ, List, [], ◌∷◌, ◌++◌, map, length, Some, None, true, refl, sym, ap, ◌∙◌, subst, inl, inr, ◌==◌}
 use Rattle.std.specs.Prelude.{Contains, slice_get, option_and_then}
 use Rattle.std.proofs.lemmas.List.Elements.{Contains-append_right}
 use Rattle.dns_data.specs.Name.{Labels}
 use Rattle.dns_data.specs.declared.rr_type.RrType.{RrType}
 use Rattle.dns_data.proofs.Membership.{has_first}
-use Rattle.net_model.specs.Step.{Setting, arrived, start, next}
+use Rattle.net_model.specs.Step.{Setting, Go, arrived, start, next}
 use Rattle.net_model.specs.Walk.{walk_from}
+use Rattle.net_model.specs.declared.walk.Hop.{Hop}
 use Rattle.net_model.specs.declared.walk.State.{State}
 use Rattle.net_model.specs.declared.walk.Walk.{Walk}
 use Rattle.net_model.proofs.EndsSomewhere.{ends_somewhere}
-use Rattle.net_model.proofs.Leads.{branch_taken, leads_walk}
+use Rattle.net_model.proofs.Leads.{Leads, branch_taken, leads_walk}
 use Rattle.graph_form.specs.GraphOf.{StandsOn}
-use Rattle.interp_graph.specs.Drafts.{Comes}
+use Rattle.graph_form.proofs.Places.{place_of_item}
+use Rattle.interp_graph.specs.Listed.{Comes}
+
+-- a state in which the query begins comes from there
+pub begins : (setting : Setting) (begin : List State) (state : State) (rtype : RrType) → Contains begin state → Comes setting begin rtype state
+begins setting begin state rtype has =
+    let at = place_of_item begin state has in
+    record { number = at.0; first = state; is_first = at.1; numbers = []; hops = []; leads = refl }
+
+-- one branch more
+leads_on : (setting : Setting) (rtype : RrType) (numbers : List ℕ) (hops : List Hop) (from via : State) (number : ℕ) (hop : Hop) (to : State)
+    → Leads setting rtype from numbers hops via → slice_get (next setting rtype via) number ≡ Some (Go hop to)
+    → Leads setting rtype from (numbers ++ number ∷ []) (hops ++ hop ∷ []) to
+leads_on setting rtype [] [] from via number hop to same is =
+    (to, ap (λ (s : State). slice_get (next setting rtype s) number) same ∙ is, refl)
+leads_on setting rtype [] (h ∷ hops) from via number hop to none is = absurd none
+leads_on setting rtype (n ∷ numbers) [] from via number hop to none is = absurd none
+leads_on setting rtype (n ∷ numbers) (h ∷ hops) from via number hop to (between, first, rest) is =
+    (between, first, leads_on setting rtype numbers hops between via number hop to rest is)
+
+-- a state comes from where the query begins, and so does each to which it leads
+pub comes_on : (setting : Setting) (begin : List State) (rtype : RrType) (state : State) → Comes setting begin rtype state
+    → (hop : Hop) (to : State) → Contains (next setting rtype state) (Go hop to) → Comes setting begin rtype to
+comes_on setting begin rtype state comes hop to has =
+    let at = place_of_item (next setting rtype state) (Go hop to) has in
+    record {
+      number = comes.number;
+      first = comes.first;
+      is_first = comes.is_first;
+      numbers = comes.numbers ++ at.0 ∷ [];
+      hops = comes.hops ++ hop ∷ [];
+      leads = leads_on setting rtype comes.numbers comes.hops comes.first state at.0 hop to comes.leads at.1;
+    }
 
 -- a walk from a state has it as its first
 begins_with : (setting : Setting) (rtype : RrType) (numbers : List ℕ) (state : State) (walk : Walk)

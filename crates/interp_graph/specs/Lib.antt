@@ -7,8 +7,8 @@ pub use Rattle.graph_form.specs.Graph
 pub use Rattle.graph_form.specs.GraphOf
 pub mod Asked
 pub mod Steps
-pub mod Drafts
 pub mod StateKey
 pub mod KeySet
-pub mod Growing
+pub mod Listed
+pub mod Making
 pub mod Restricted

@@ -1,9 +1,10 @@
 -- A graph where only some servers are followed, and with which types its paths still come to nodes. The contracts of
 -- inner calls alone cite it.
 use Rattle.std.specs.Prelude.{◌≡◌, ◌⊎◌, ℕ, ◌<◌, ◌≤◌, ◌&&◌, Bool, true, false, List, [], ◌∷◌, length, map, Option, Some, None, Contains, slice_get, if◌then◌else◌}
-use Rattle.std.specs.List.{AllZip, sum_by}
+use Rattle.std.specs.List.{AllZip, filter, sum_by}
 use Rattle.std.specs.Option.{option_map_or}
 use Rattle.dns_data.specs.Name.{Labels}
+use Rattle.dns_data.specs.RrType.{types}
 use Rattle.dns_data.specs.TypeSet.{has_bit}
 use Rattle.dns_data.specs.declared.rr_type.RrType.{RrType}
 use Rattle.net_model.specs.Step as step
@@ -17,7 +18,6 @@ use Rattle.graph_form.specs.declared.node.Arm.{Arm}
 use Rattle.graph_form.specs.declared.node.Branch.{Branch}
 use Rattle.graph_form.specs.declared.node.Branch.TheVariants.{Go, End}
 use Rattle.graph_form.specs.declared.node.Node.{Node}
-use Rattle.interp_graph.specs.Drafts.{size_of}
 use Rattle.interp_graph.specs.declared.limits.Limits.{Limits}
 use Rattle.interp_graph.specs.declared.reached.Reaching.{Reaching}
 
@@ -63,6 +63,10 @@ module _ (ends : Hop → Option Leaf) where
 -- the node with this number has the type, by the sets of types of all nodes
 abbrev pub has_type : List (List Bool) → ℕ → RrType → Bool
 has_type sets at rtype = option_map_or (λ set. has_bit set rtype) (slice_get sets at) false
+
+-- how many types a set has
+abbrev pub size_of : List Bool → ℕ
+size_of set = length (filter (has_bit set) types)
 
 -- how many pairs of node and type there are
 abbrev pub many_types : List (List Bool) → ℕ

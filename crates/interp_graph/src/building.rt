@@ -1,27 +1,24 @@
 //! The graph of a query.
 
-ghost use Rattle.std.specs.Prelude.{◌≡◌, ◌≤◌, ◌++◌, ◌∷◌, [], ℕ, List, map, length, IfOk, OnOk, IfSome, IsErrOf};
+ghost use Rattle.std.specs.Prelude.{◌≡◌, ◌≤◌, ◌<◌, ◌+◌, ◌*◌, ◌^◌, ◌++◌, ◌∷◌, [], ℕ, length, slice_get, Some, IfOk, OnOk, IfSome, IsErrOf};
+ghost use Rattle.std.specs.List.{AllZip};
 ghost use Rattle.dns_data.specs.Name.{wire_octets};
-ghost use Rattle.dns_data.specs.declared.rr_type.RrType.{RrType};
 ghost use Rattle.name_rules.specs.SymName.{whole};
 ghost use Rattle.net_model.specs.Nearest.{server_names};
-ghost use Rattle.net_model.specs.Step.{Setting, following, start};
+ghost use Rattle.net_model.specs.Step.{following, start};
 ghost use Rattle.net_model.specs.Tree.{IsReached, HasMoreThan};
-ghost use Rattle.net_model.specs.declared.walk.State.{State};
 ghost use Rattle.graph_form.specs.Graph.{pairs_of};
 ghost use Rattle.graph_form.specs.GraphOf.{IsExact, IsGraphOf};
 ghost use Rattle.interp_graph.specs.Asked.{IsAsked, StandsForOthers, ReachesMost};
-ghost use Rattle.interp_graph.specs.Drafts.{AreDrafts, Grows, drafts_of, node_of};
-ghost use Rattle.interp_graph.specs.Growing.{IsSoundSoFar, AreToFollow, Waits, Advances, HasMoreComing, AwaitAll, drafts_in};
+ghost use Rattle.interp_graph.specs.Listed.{Lists, OfOne, Passes};
+ghost use Rattle.interp_graph.specs.Making.{nodes_of};
 
 use crate::fault::GraphFault;
-use crate::following::put_forks;
-use crate::forks::forks;
-use crate::growing::GrowingGraph;
+use crate::following::reach;
 use crate::key_set::KeySet;
-use crate::node_types::NodeTypes;
-use dns_data::{Boxed, JoinFault, List, Name, NoMemory, TypeSet};
-use graph_form::{Graph, Node};
+use crate::turns::{follow_all, follow_rest};
+use dns_data::{Boxed, JoinFault, List, Name, NoMemory, RrType};
+use graph_form::{Arm, Graph, Node};
 use name_rules::SymName;
 use net_model::State;
 use std::alloc::Global;
@@ -46,11 +43,32 @@ pub fn build(
     ensures reaches_most { OnOk result (ReachesMost hosts.now rewrites name.now limit name.now.tail) }
 {
     let walker = Walker::following_all(hosts, rewrites);
-    let states = first_states(alloc, hosts, name)?;
-    let mut growing = GrowingGraph::new(alloc, limit);
-    let starts = begin(alloc, &mut growing, states)?;
-    follow(alloc, &walker, &mut growing)?;
-    Ok(graph_of(alloc, growing, starts)?)
+    let begin = first_states(alloc, hosts, name)?;
+    let mut states = KeySet::new(alloc);
+    let most = most_of_all(limit);
+    let starts = numbered(alloc, &mut states, most, begin)?;
+    let drafts = follow_all(alloc, &walker, &mut states, most)?;
+    let most = most_with_rest(limit, states.len() as u32);
+    let arms = follow_rest(alloc, &walker, &mut states, most, drafts)?;
+    Ok(graph_of(alloc, states, arms, starts)?)
+}
+
+/// How many states there may be where each is reached with all twelve types.
+fn most_of_all(limit: u32) -> u32
+    ensures within { 12 * result ≤ limit }
+    ensures passed { (many : ℕ) → result < many → limit < 12 * many }
+{
+    limit / RrType::COUNT as u32
+}
+
+/// How many states there may be where the first ones are reached with all twelve types, and the others with eleven.
+fn most_with_rest(limit: u32, first: u32) -> u32
+    requires { 12 * first ≤ limit }
+    ensures within { 11 * result + first ≤ limit }
+    ensures room { first ≤ result }
+    ensures passed { (many : ℕ) → result < many → limit < 11 * many + first }
+{
+    (limit - first) / (RrType::COUNT as u32 - 1)
 }
 
 /// The states in which the walks of the known name with its tail begin.
@@ -82,81 +100,54 @@ fn whole_name(alloc: Global, name: &SymName) -> Result<Name, NoMemory>
     Ok(made)
 }
 
-/// The numbers of the nodes of the states in which a query begins. All types come to them.
-fn begin(
+/// The numbers of states. New ones get the next numbers; it is `StatesPassed` where there are more than `most` states then.
+fn numbered(
     alloc: Global,
-    growing: &mut GrowingGraph,
-    states: List<Boxed<State>>,
+    states: &mut KeySet,
+    most: u32,
+    begin: List<Boxed<State>>,
 ) -> Result<List<u32>, GraphFault>
-    requires { IsSoundSoFar growing.old }
-    ensures sound { OnOk result (IsSoundSoFar growing.new) }
-    ensures advances { OnOk result (Advances growing.old growing.new) }
-    ensures starts { IfOk result (λ starts. AwaitAll (drafts_in growing.new) starts states) }
-    ensures drafts { OnOk result ((setting : Setting) → AreDrafts setting states (drafts_in growing.old) → AreDrafts setting states (drafts_in growing.new)) }
-    ensures passed { IsErrOf result GraphFault.StatesPassed → (setting : Setting) → AreDrafts setting states (drafts_in growing.old) → HasMoreComing setting states growing.old.limit }
+    requires { length states.old ≤ most }
+    ensures lists { OnOk result (Lists (OfOne (λ state one. state ≡ one) begin) most states.old states.new) }
+    ensures told { IfOk result (λ numbers. AllZip (λ at state. slice_get states.new at ≡ Some state) numbers begin) }
+    ensures passed { IsErrOf result GraphFault.StatesPassed → Passes (OfOne (λ state one. state ≡ one) begin) most states.old }
 {
-    let all = TypeSet::all();
-    let mut starts = List::new(alloc);
-    for state in states {
-        starts.push(growing.reach(alloc, state, all)?)?;
+    let mut numbers = List::new(alloc);
+    for state in begin {
+        numbers.push(reach(alloc, states, most, state)?)?;
     }
-    Ok(starts)
+    Ok(numbers)
 }
 
-/// Follows each type that waits at a node, while every configured server is followed.
-fn follow(
+/// The graph of states with the arms of their nodes.
+fn graph_of(
     alloc: Global,
-    walker: &Walker<'_, '_>,
-    growing: &mut GrowingGraph,
-) -> Result<(), GraphFault>
-    requires sound { IsSoundSoFar growing.old }
-    requires listed { AreToFollow growing.old }
-    ensures sound { OnOk result (IsSoundSoFar growing.new) }
-    ensures limit { OnOk result (growing.new.limit ≡ growing.old.limit) }
-    ensures grows { OnOk result (Grows (drafts_in growing.old) (drafts_in growing.new)) }
-    ensures none { OnOk result ((at : ℕ) (rtype : RrType) → Waits (drafts_in growing.new) at rtype → ⊥) }
-    ensures drafts { OnOk result ((begin : List State) → AreDrafts walker.now begin (drafts_in growing.old) → AreDrafts walker.now begin (drafts_in growing.new)) }
-    ensures passed { IsErrOf result GraphFault.StatesPassed → (begin : List State) → AreDrafts walker.now begin (drafts_in growing.old) → HasMoreComing walker.now begin growing.old.limit }
+    states: KeySet,
+    arms: List<List<Arm>>,
+    starts: List<u32>,
+) -> Result<Graph, NoMemory>
+    requires nodes { length (nodes_of states arms) < 2 ^ 32 }
+    requires pairs { length (pairs_of (record { nodes = nodes_of states arms; starts = starts })) < 2 ^ 32 }
+    ensures { IfOk result (λ graph. graph ≡ record { nodes = nodes_of states arms; starts = starts }) }
 {
-    while let Some(at) = growing.take() {
-        let forks = forks(alloc, walker, growing.key(at).state(), growing.waiting(at))?;
-        put_forks(alloc, growing, at, forks)?;
-    }
-    Ok(())
-}
-
-/// The graph whose nodes are made.
-fn graph_of(alloc: Global, growing: GrowingGraph, starts: List<u32>) -> Result<Graph, NoMemory>
-    requires sound { IsSoundSoFar growing }
-    requires drafts { (setting : Setting) × (begin : List State) × AreDrafts setting begin (drafts_in growing) }
-    ensures { IfOk result (λ graph. graph ≡ record { nodes = map node_of (drafts_in growing); starts = starts }) }
-{
-    // What was left to follow, and the count of pairs with its limit, were for the making alone.
-    let GrowingGraph {
-        states,
-        nodes,
-        stack: _,
-        pairs: _,
-        limit: _,
-    } = growing;
-    let nodes = nodes_of(alloc, states, List::from_vec(nodes))?;
+    let nodes = nodes_of(alloc, states, arms)?;
     Ok(Graph::new(nodes, starts))
 }
 
-/// The nodes of states, each with the arms of its types.
-fn nodes_of(alloc: Global, states: KeySet, types: List<NodeTypes>) -> Result<List<Node>, NoMemory>
-    ensures { IfOk result (λ nodes. nodes ≡ map node_of (drafts_of states types)) }
+/// The nodes of states, each with its arms.
+fn nodes_of(alloc: Global, states: KeySet, arms: List<List<Arm>>) -> Result<List<Node>, NoMemory>
+    ensures { IfOk result (λ nodes. nodes ≡ nodes_of states arms) }
 {
     let keys = states.into_keys(alloc)?;
-    let mut nodes = Vec::with_capacity(alloc, types.len())?;
-    let mut left = types.into_iter();
+    let mut nodes = Vec::with_capacity(alloc, arms.len())?;
+    let mut left = arms.into_iter();
     for key in keys {
         match left.next() {
-            Some(of_node) => nodes.push(Node {
+            Some(arms) => nodes.push(Node {
                 state: key.into_state(),
-                arms: of_node.arms,
+                arms,
             })?,
-            // This doesn't come: there are types beside each state.
+            // This doesn't come: there are arms beside each state.
             None => return Ok(List::from_vec(nodes)),
         }
     }

@@ -1,6 +1,7 @@
 //! What a state leads to while every configured server is followed, by what its server replies.
 
 ghost use Rattle.std.specs.Prelude.{◌≡◌, IfOk};
+ghost use Rattle.dns_data.specs.TypeSet.{has_bit};
 ghost use Rattle.zone_lookup.specs.Alike.{GoAlike, HasSome};
 ghost use Rattle.zone_lookup.specs.Reply.{IsReply};
 ghost use Rattle.interp_graph.specs.Steps.{AreForks, IsFork};
@@ -18,7 +19,7 @@ pub(crate) fn forks(
     state: &State,
     types: TypeSet,
 ) -> Result<List<Fork>, NoMemory>
-    ensures { IfOk result (AreForks walker.now state.now types) }
+    ensures { IfOk result (AreForks walker.now state.now (has_bit types)) }
 {
     match walker.hosts().nearest_of(&state.server, &state.name) {
         Some(tree) => {
@@ -39,7 +40,7 @@ fn forks_by(
     types: TypeSet,
 ) -> Result<List<Fork>, NoMemory>
     requires { IsReply walker.now.config state.now.server state.now.name reply.now }
-    ensures { IfOk result (AreForks walker.now state.now types) }
+    ensures { IfOk result (AreForks walker.now state.now (has_bit types)) }
 {
     let sets = split_by(alloc, reply, types)?;
     let sets = sets.items();

@@ -52,6 +52,17 @@ impl KeySet {
         }
     }
 
+    /// How many keys there are.
+    pub(crate) fn len(&self) -> usize
+        ensures many { result ≡ length self.now }
+        ensures once { IsDistinct state_eq self.now }
+    {
+        match &self.storage {
+            KeyStorage::Few(keys) => keys.len(),
+            KeyStorage::Many(keys) => keys.len(),
+        }
+    }
+
     /// The key with this number.
     pub(crate) fn key(&self, number: usize) -> &Key
         requires { number < length self.now }

@@ -5,8 +5,8 @@
 //! is followed, with one node for each state and exactly the pairs of state and type that the query reaches; `restrict`
 //! gives the graph of the walks that follow fewer servers. Where there are more pairs than are allowed, `build` says so.
 //!
-//! Costs: a state is looked up once for all types that come to it together; a state that is met again takes only the
-//! types that it hasn't had. A few states are looked through one by one, of more each is found by its hash. A state is
+//! Costs: a state is looked up once, for all types that come to it: first those that all types reach are visited, and then
+//! those that all but CNAME reach. A few states are looked through one by one, of more each is found by its hash. A state is
 //! made once, and goes from the key by which it is found into the graph; a lookup in a zone copies its name. No zone is
 //! copied, and no list of walks is made.
 //!
@@ -21,15 +21,14 @@ mod building;
 mod fault;
 mod following;
 mod forks;
-mod growing;
 mod key;
 mod key_set;
 mod limited;
 mod limits;
-mod node_types;
 mod reached;
 mod restriction;
 mod step;
+mod turns;
 
 pub use building::build;
 pub use fault::GraphFault;

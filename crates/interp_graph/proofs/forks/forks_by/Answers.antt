@@ -5,8 +5,7 @@ use Rattle.dns_data.specs.TypeSet.{has_bit}
 use Rattle.dns_data.proofs.Membership.{each_along}
 use Rattle.dns_data.proofs.Names.{all_push}
 use Rattle.zone_lookup.specs.Alike.{AreSplit, GoAlike, HasSome}
-use Rattle.interp_graph.specs.Steps.{IsFork}
-use Rattle.interp_graph.proofs.ForksOfTypes.{forks_split, types_of}
+use Rattle.interp_graph.specs.Steps.{IsFork, types_of}
 use Rattle.interp_graph.proofs.forks.forks_by.Goals as goal
 
 pub split_by-requires : goal.split_by-requires
@@ -42,6 +41,8 @@ loop-at-preserved c =
 pub returns : goal.returns
 returns c =
     let sets = c.items-sets.result.now in
-    forks_split c.args.walker.now c.args.state.now c.args.types sets c.loop-at.forks
-    (c.loop-at.invariant.sets ∙ take_all c.loop-at.at sets c.loop-at-test.false)
-    (subst (AreSplit (has_bit c.args.types)) (sym c.items-sets.ensures) c.in_ok-sets.ensures.split) c.loop-at.invariant.tell
+    record {
+      split = subst (AreSplit (has_bit c.args.types)) (sym (c.loop-at.invariant.sets ∙ take_all c.loop-at.at sets c.loop-at-test.false ∙ c.items-sets.ensures))
+          c.in_ok-sets.ensures.split;
+      tell = each_along (IsFork c.args.walker.now c.args.state.now) c.loop-at.forks c.loop-at.invariant.tell;
+    }

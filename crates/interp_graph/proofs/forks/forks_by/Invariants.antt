@@ -1,7 +1,6 @@
 use Rattle.std.proofs.Common.{◌≡◌, map, take}
 use Rattle.std.specs.List.{AllByRecursion}
-use Rattle.interp_graph.specs.Steps.{IsFork}
-use Rattle.interp_graph.proofs.ForksOfTypes.{types_of}
+use Rattle.interp_graph.specs.Steps.{IsFork, types_of}
 use Rattle.interp_graph.proofs.forks.forks_by.Given as goal
 
 -- the sets so far have their forks

@@ -2,7 +2,7 @@ use Rattle.std.proofs.Common.{Some, ap, sym, ◌∙◌}
 use Rattle.std.proofs.lemmas.Bool.{or_from}
 use Rattle.std.proofs.lemmas.List.Folds.{list_any_more}
 use Rattle.interp_graph.specs.StateKey.{state_eq, state_decides}
-use Rattle.interp_graph.proofs.Numbering.{item_is}
+use Rattle.interp_graph.proofs.ItemsByNumber.{item_is}
 use Rattle.interp_graph.proofs.key_set.number_of.Goals as goal
 
 pub loop-number-preserved : goal.loop-number-preserved

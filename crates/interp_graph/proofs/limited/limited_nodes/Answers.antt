@@ -2,7 +2,7 @@ use Rattle.std.proofs.Common.{◌+◌, ◌<◌, ℕ, List, [], ◌∷◌, length
 use Rattle.graph_form.specs.declared.node.Node.{Node}
 use Rattle.interp_graph.specs.Restricted.{LimitedAt, shut_of}
 use Rattle.interp_graph.proofs.Limiting.{limited_more}
-use Rattle.interp_graph.proofs.Numbering.{item_is}
+use Rattle.interp_graph.proofs.ItemsByNumber.{item_is}
 use Rattle.interp_graph.proofs.limited.limited_nodes.Goals as goal
 
 pub loop-at-preserved : goal.loop-at-preserved

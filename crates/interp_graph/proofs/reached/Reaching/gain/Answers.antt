@@ -1,6 +1,6 @@
 use Rattle.std.proofs.Common.{refl}
 use Rattle.interp_graph.proofs.Gaining.{gain_some}
-use Rattle.interp_graph.proofs.Numbering.{item_is}
+use Rattle.interp_graph.proofs.ItemsByNumber.{item_is}
 use Rattle.interp_graph.proofs.reached.Reaching.gain.Goals as goal
 
 pub returns-then-lacks : goal.returns-then-lacks

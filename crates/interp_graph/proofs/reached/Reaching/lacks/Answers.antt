@@ -5,7 +5,7 @@ use Rattle.std.proofs.lemmas.Bool.{and_parts, not-true}
 use Rattle.dns_data.specs.TypeSet.{has_bit}
 use Rattle.dns_data.specs.declared.rr_type.RrType.{RrType}
 use Rattle.interp_graph.specs.Restricted.{has_type}
-use Rattle.interp_graph.proofs.Numbering.{item_is}
+use Rattle.interp_graph.proofs.ItemsByNumber.{item_is}
 use Rattle.interp_graph.proofs.reached.Reaching.lacks.Goals as goal
 
 -- a type that is found among those that a node lacks

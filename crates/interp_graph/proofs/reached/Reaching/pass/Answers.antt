@@ -2,7 +2,7 @@ use Rattle.std.proofs.Common.{false, List, refl, subst, arith}
 use Rattle.std.proofs.lemmas.Option.{slice_get_within}
 use Rattle.graph_form.specs.declared.node.Arm.{Arm}
 use Rattle.interp_graph.specs.Restricted.{ArmLeads, ForOne, Gains, shut_of}
-use Rattle.interp_graph.proofs.Numbering.{item_is}
+use Rattle.interp_graph.proofs.ItemsByNumber.{item_is}
 use Rattle.interp_graph.proofs.Reaching.{pass_first, pass_more}
 use Rattle.interp_graph.proofs.reached.Reaching.pass.Goals as goal
 

@@ -1,0 +1,167 @@
+-- What the branches and arms of followed forks tell, and to which states they go.
+use Rattle.std.proofs.Common.{◌≡◌, ℕ, ◌≤◌, ◌<◌, Bool, true, false, not, List, map, length, refl, sym, ap, ◌∙◌, subst, true≢false, arith}
+use Rattle.std.specs.Prelude.{Contains}
+use Rattle.std.specs.List.{AllZip, list_any}
+use Rattle.std.proofs.lemmas.Bool.{and_from, and_parts}
+use Rattle.std.proofs.lemmas.Option.{slice_get_within}
+use Rattle.dns_data.specs.RrType.{type_eq}
+use Rattle.dns_data.specs.TypeSet.{has_bit}
+use Rattle.dns_data.specs.declared.rr_type.RrType.{RrType}
+use Rattle.dns_data.specs.declared.rr_type.RrType.TheVariants as rr
+use Rattle.dns_data.proofs.Membership.{each_along, map_has}
+use Rattle.dns_data.proofs.Searches.{any_has, from_any}
+use Rattle.net_model.specs.Step as step
+use Rattle.net_model.specs.Step.{Setting, next}
+use Rattle.net_model.specs.declared.walk.Hop.{Hop}
+use Rattle.net_model.specs.declared.walk.State.{State}
+use Rattle.graph_form.specs.declared.node.Arm.{Arm}
+use Rattle.graph_form.specs.declared.node.Branch.{Branch}
+use Rattle.graph_form.specs.declared.node.Branch.TheVariants.{Go, End}
+use Rattle.zone_lookup.specs.Alike.{AreSplit, HasSome}
+use Rattle.zone_lookup.specs.Steps.{branch_of}
+use Rattle.zone_lookup.specs.declared.steps.Step.{Step}
+use Rattle.zone_lookup.specs.declared.steps.Step.TheVariants as step_as
+use Rattle.interp_graph.specs.Listed.{Adds, ForkGoes, OfOne, but_cname, every}
+use Rattle.interp_graph.specs.Making.{IsArmOf, IsDraft, IsDraftOf, IsFinishedOf, IsNode, TellsStep, cname_goes, goes_on}
+use Rattle.interp_graph.specs.Steps.{AreForks, types_of}
+use Rattle.interp_graph.specs.declared.step.Draft.{Draft}
+use Rattle.interp_graph.specs.declared.step.Draft.TheVariants.{Done, Left}
+use Rattle.interp_graph.specs.declared.step.Fork.{Fork}
+use Rattle.interp_graph.proofs.ItemsByNumber.{beside, beside_images, same_images, side_by_side}
+use Rattle.interp_graph.proofs.Listing.{still_listed}
+use Rattle.interp_graph.proofs.TypesAlike.{goes_alike}
+
+-- ---- what stays where states are put behind the others
+
+module _ {Is : State → Type 0} {before after : List State} (adds : Adds Is before after) where
+  -- a branch still tells its step
+  pub tells_on : (branch : Branch) (other : step.Branch) → TellsStep before branch other → TellsStep after branch other
+  tells_on (Go hop to) other (state, tells, is) = (state, tells, still_listed adds to state is)
+  tells_on (End hop leaf) other tells = tells
+
+  -- an arm still tells its fork
+  pub arm_on : (arm : Arm) (fork : Fork) → IsArmOf before arm fork → IsArmOf after arm fork
+  arm_on arm fork is =
+      record {
+        types = is.types;
+        told = side_by_side (λ b (s : Step). TellsStep before b (branch_of s)) (λ b (s : Step). TellsStep after b (branch_of s)) arm.branches fork.steps
+            (λ b s. tells_on b (branch_of s)) is.told;
+      }
+
+  module _ (setting : Setting) (first later : ℕ) (not_fewer : first ≤ later) (among : RrType → Bool) (state : State) where
+    -- a node is still one, also where more states are the first
+    pub node_on : (arms : List Arm) → IsNode setting before first among arms state → IsNode setting after later among arms state
+    node_on arms is =
+        record {
+          split = is.split;
+          tell = λ arm has rtype typed.
+              side_by_side (TellsStep before) (TellsStep after) arm.branches (next setting rtype state) tells_on (is.tell arm has rtype typed);
+          inside = λ arm has typed hop to goes. omega (arith, is.inside arm has typed hop to goes, not_fewer);
+        }
+
+    -- and so is a draft
+    pub draft_on : (draft : Draft) → IsDraft setting before first among draft state → IsDraft setting after later among draft state
+    draft_on (Done arms) is = node_on arms is
+    draft_on (Left forks) is = is
+
+-- ---- a node by its forks
+
+-- the arms that forks of a state tell make its node, if with type CNAME they lead to the first states alone
+pub node_of : (setting : Setting) (states : List State) (first : ℕ) (among : RrType → Bool) (state : State) (forks : List Fork) (arms : List Arm)
+    → AreForks setting state among forks → AllZip (IsArmOf states) arms forks
+    → ((arm : Arm) (fork : Fork) → Contains forks fork → IsArmOf states arm fork → has_bit arm.types rr.Cname ≡ true
+    → (hop : Hop) (to : ℕ) → Contains arm.branches (Go hop to) → to < first)
+    → IsNode setting states first among arms state
+node_of setting states first among state forks arms are told inside =
+    record {
+      split = subst (AreSplit among) (sym (same_images (IsArmOf states) (λ (arm : Arm). arm.types) types_of (λ arm fork is. is.types) arms forks told)) are.split;
+      tell = λ arm has rtype typed.
+          let of = beside (IsArmOf states) arms forks arm told has in
+          subst (AllZip (TellsStep states) arm.branches)
+          (are.tell of.0 of.1 rtype (ap (λ (types : List Bool). has_bit types rtype) (sym of.2.types) ∙ typed))
+          (beside_images (TellsStep states) branch_of arm.branches of.0.steps of.2.told);
+      inside = λ arm has typed.
+          let of = beside (IsArmOf states) arms forks arm told has in inside arm of.0 of.1 of.2 typed;
+    }
+
+-- a branch that leads on tells a step that goes on to a listed state
+led_on : (states : List State) (arm : Arm) (fork : Fork) (hop : Hop) (to : ℕ) → IsArmOf states arm fork → Contains arm.branches (Go hop to)
+    → (to < length states) × (list_any goes_on fork.steps ≡ true)
+led_on states arm fork hop to is goes =
+    let of = beside (λ b (s : Step). TellsStep states b (branch_of s)) arm.branches fork.steps (Go hop to) is.told goes in
+    (slice_get_within states to of.2.0 of.2.2, any_has goes_on fork.steps of.0 of.1 (by of.0 of.2.0 of.2.1))
+  where
+    by : (one : Step) (state : State) → branch_of one ≡ step.Go hop state → goes_on one ≡ true
+    by (step_as.Go h s) state is = refl
+    by (step_as.End h leaf) state is = cc
+
+-- the draft that is made of a state's forks is one of its node, if walks of all types reach the state
+pub draft_made : (setting : Setting) (states : List State) (state : State) (forks : List Fork) (draft : Draft) → AreForks setting state every forks
+    → IsDraftOf states forks draft → IsDraft setting states (length states) every draft state
+draft_made setting states state forks (Done arms) are told =
+    node_of setting states (length states) every state forks arms are told
+    (λ arm fork has is typed hop to goes. (led_on states arm fork hop to is goes).0)
+draft_made setting states state forks (Left left) are (same, stays) =
+    record { are = subst (AreForks setting state every) (sym same) are; stays = ap (list_any cname_goes) same ∙ stays }
+
+-- the arms by a draft are those of a node
+pub node_finished : {Is : State → Type 0} (before after : List State) → Adds Is before after → (setting : Setting) (first : ℕ) (among : RrType → Bool) (state : State)
+    (draft : Draft) (arms : List Arm) → IsDraft setting before first among draft state → IsFinishedOf after draft arms → IsNode setting after first among arms state
+node_finished before after adds setting first among state (Done done) arms is same =
+    subst (λ (arms : List Arm). IsNode setting after first among arms state) (sym same) (node_on adds setting first first (omega arith) among state done is)
+node_finished before after adds setting first among state (Left forks) arms is told =
+    node_of setting after first among state forks arms is.are told
+    (λ arm fork has so typed hop to goes.
+    absurd (true≢false (sym (any_has cname_goes forks fork has
+    (and_from (has_bit fork.types rr.Cname) (list_any goes_on fork.steps) (ap (λ (types : List Bool). has_bit types rr.Cname) (sym so.types) ∙ typed)
+    (led_on after arm fork hop to so goes).1)) ∙ is.stays)))
+
+-- ---- to which states walks go on
+
+module _ (setting : Setting) (state : State) (among : RrType → Bool) (forks : List Fork) (are : AreForks setting state among forks) where
+  -- a fork has a type, and with it walks go on from the state to those to which the fork goes
+  pub goes_with : (fork : Fork) (to : State) → Contains forks fork → ForkGoes fork to
+      → (rtype : RrType) × (has_bit fork.types rtype ≡ true) × (hop : Hop) × Contains (next setting rtype state) (step.Go hop to)
+  goes_with fork to has (one, there, goes) =
+      let some = each_along HasSome (map types_of forks) are.split.some fork.types (map_has types_of forks fork has) in (
+        some.0,
+        some.1,
+        goes.0,
+        subst (Contains (next setting some.0 state)) goes.1
+            (subst (λ (branches : List step.Branch). Contains branches (branch_of one)) (are.tell fork has some.0 some.1) (map_has branch_of fork.steps one there)),
+      )
+
+  -- where walks of type CNAME go on, those of each type go on alike
+  pub all_go : list_any cname_goes forks ≡ true → (to : State) → OfOne ForkGoes forks to → (rtype : RrType)
+      → (hop : Hop) × Contains (next setting rtype state) (step.Go hop to)
+  all_go turns to (fork, has, goes) rtype =
+      let (by, by_has, by_goes) = from_any cname_goes forks turns in
+      let parts = and_parts (has_bit by.types rr.Cname) (list_any goes_on by.steps) by_goes in
+      let (one, there, goes_one) = from_any goes_on by.steps parts.1 in
+      let (state_by, hop_by, is_by) = gone one goes_one in
+      let goes_by : Contains (next setting rr.Cname state) (step.Go hop_by state_by) =
+      subst (Contains (next setting rr.Cname state)) is_by
+      (subst (λ (branches : List step.Branch). Contains branches (branch_of one)) (are.tell by by_has rr.Cname parts.0) (map_has branch_of by.steps one there)) in
+      let (u, bit, hop, on) = goes_with fork to has goes in (
+        hop,
+        subst (λ (branches : List step.Branch). Contains branches (step.Go hop to))
+            (goes_alike setting state hop_by state_by rr.Cname u (λ _. refl) goes_by ∙ sym (goes_alike setting state hop_by state_by rr.Cname rtype (λ _. refl) goes_by)) on,
+      )
+    where
+      gone : (one : Step) → goes_on one ≡ true → (to : State) × (hop : Hop) × (branch_of one ≡ step.Go hop to)
+      gone (step_as.Go hop to) goes = (to, hop, refl)
+      gone (step_as.End hop leaf) goes = absurd (true≢false (sym goes))
+
+  -- where walks go on, those of each type but CNAME go on alike
+  pub rest_go : (to : State) → OfOne ForkGoes forks to → (rtype : RrType) → but_cname rtype ≡ true
+      → (hop : Hop) × Contains (next setting rtype state) (step.Go hop to)
+  rest_go to (fork, has, goes) rtype other =
+      let (u, bit, hop, on) = goes_with fork to has goes in (
+        hop,
+        subst (λ (branches : List step.Branch). Contains branches (step.Go hop to))
+            (sym (goes_alike setting state hop to u rtype (λ is. absurd (not_both (type_eq rtype rr.Cname) is other)) on)) on,
+      )
+    where
+      not_both : (b : Bool) → b ≡ true → not b ≡ true → ⊥
+      not_both true is other = true≢false (sym other)
+      not_both false is other = true≢false (sym is)

@@ -1,0 +1,123 @@
+-- The nodes of a graph in the making. The contracts of inner calls alone cite it.
+use Rattle.std.specs.Prelude.{◌≡◌, ℕ, zero, suc, ◌<◌, ◌≤◌, Bool, true, false, ◌&&◌, List, [], ◌∷◌, length, map, Option, Some, None, Contains, slice_get}
+use Rattle.std.specs.List.{AllZip, list_any}
+use Rattle.dns_data.specs.TypeSet.{has_bit}
+use Rattle.dns_data.specs.declared.rr_type.RrType.{RrType}
+use Rattle.dns_data.specs.declared.rr_type.RrType.TheVariants as rr
+use Rattle.net_model.specs.Step as step
+use Rattle.net_model.specs.Step.{Setting, next}
+use Rattle.net_model.specs.declared.walk.Hop.{Hop}
+use Rattle.net_model.specs.declared.walk.State.{State}
+use Rattle.graph_form.specs.declared.node.Arm.{Arm}
+use Rattle.graph_form.specs.declared.node.Branch.{Branch}
+use Rattle.graph_form.specs.declared.node.Branch.TheVariants.{Go, End}
+use Rattle.graph_form.specs.declared.node.Node.{Node}
+use Rattle.graph_form.proofs.Places.{PairAt}
+use Rattle.zone_lookup.specs.Alike.{AreSplit}
+use Rattle.zone_lookup.specs.Steps.{branch_of}
+use Rattle.zone_lookup.specs.declared.steps.Step.{Step}
+use Rattle.zone_lookup.specs.declared.steps.Step.TheVariants as step_as
+use Rattle.interp_graph.specs.Listed.{OfOne, ForkGoes, every, but_cname}
+use Rattle.interp_graph.specs.Steps.{AreForks}
+use Rattle.interp_graph.specs.declared.step.Draft.{Draft}
+use Rattle.interp_graph.specs.declared.step.Draft.TheVariants.{Done, Left}
+use Rattle.interp_graph.specs.declared.step.Fork.{Fork}
+
+-- a branch tells a branch of a state: where that goes on to a state, it leads to this state's number; and else it is the
+-- same end
+abbrev pub TellsStep : List State → Branch → step.Branch → Type 0
+TellsStep states (Go hop to) branch = (state : State) × (branch ≡ step.Go hop state) × (slice_get states to ≡ Some state)
+TellsStep states (End hop leaf) branch = branch ≡ step.End hop leaf
+
+-- an arm tells the steps of a fork, for its types
+pub record IsArmOf (states : List State) (arm : Arm) (fork : Fork) : Type 0 where
+  pub types : arm.types ≡ fork.types
+  pub told : AllZip (λ branch one. TellsStep states branch (branch_of one)) arm.branches fork.steps
+
+-- The node of a state that walks with some types reach, where the states before this number are those that walks of all
+-- types reach: its arms are apart, have these types together, and tell the state's steps; with type CNAME they lead to the
+-- first states alone.
+pub record IsNode (setting : Setting) (states : List State) (first : ℕ) (among : RrType → Bool) (arms : List Arm) (state : State) : Type 0 where
+  pub split : AreSplit among (map (λ arm. arm.types) arms)
+  pub tell : (arm : Arm) → Contains arms arm → (rtype : RrType) → has_bit arm.types rtype ≡ true
+      → AllZip (TellsStep states) arm.branches (next setting rtype state)
+  pub inside : (arm : Arm) → Contains arms arm → has_bit arm.types rr.Cname ≡ true → (hop : Hop) (to : ℕ) → Contains arm.branches (Go hop to)
+      → to < first
+
+-- ---- drafts
+
+-- the step goes on to a state
+abbrev pub goes_on : Step → Bool
+goes_on (step_as.Go hop state) = true
+goes_on (step_as.End hop leaf) = false
+
+-- walks of type CNAME go on by the fork
+abbrev pub cname_goes : Fork → Bool
+cname_goes fork = has_bit fork.types rr.Cname && list_any goes_on fork.steps
+
+-- the forks of a state for some types, by none of which walks of type CNAME go on
+pub record AreLeft (setting : Setting) (among : RrType → Bool) (forks : List Fork) (state : State) : Type 0 where
+  pub are : AreForks setting state among forks
+  pub stays : list_any cname_goes forks ≡ false
+
+-- the draft of a state's node
+abbrev pub IsDraft : Setting → List State → ℕ → (RrType → Bool) → Draft → State → Type 0
+IsDraft setting states first among (Done arms) state = IsNode setting states first among arms state
+IsDraft setting states first among (Left forks) state = AreLeft setting among forks state
+
+-- each item stands beside a state, to which it is related by the state's number
+abbrev pub AreBeside : {A : Type 0} → (ℕ → A → State → Type 0) → List A → List State → Type 0
+AreBeside Is items states = (at : ℕ) → at < length items → PairAt (Is at) items states at
+
+-- each state has its draft, and all are reached with all types
+pub record AreDrafts (setting : Setting) (states : List State) (drafts : List Draft) : Type 0 where
+  pub all : length states ≤ length drafts
+  pub beside : AreBeside (λ at. IsDraft setting states (length states) every) drafts states
+
+-- the types with which walks reach the first of states, of which so many are reached with all types, and the others with all
+-- but CNAME
+abbrev pub typed_now : ℕ → RrType → Bool
+typed_now zero = but_cname
+typed_now (suc first) = every
+
+-- how many of the states behind the first one are reached with all types
+abbrev pub later : ℕ → ℕ
+later zero = zero
+later (suc first) = first
+
+-- the types with which walks reach the state with this number
+abbrev pub typed : ℕ → ℕ → RrType → Bool
+typed first zero = typed_now first
+typed first (suc at) = typed (later first) at
+
+-- each state has its node
+pub record AreNodes (setting : Setting) (states : List State) (first : ℕ) (arms : List (List Arm)) : Type 0 where
+  pub all : length states ≤ length arms
+  pub beside : AreBeside (λ at. IsNode setting states first (typed first at)) arms states
+
+-- the nodes of states and of the arms beside them
+abbrev pub nodes_of : List State → List (List Arm) → List Node
+nodes_of [] all = []
+nodes_of (state ∷ states) [] = []
+nodes_of (state ∷ states) (arms ∷ all) = record { state = state; arms = arms } ∷ nodes_of states all
+
+-- ---- single steps
+
+-- walks go on by the forks to the state, those of type CNAME by one of them
+abbrev pub TurnGoes : List Fork → State → Type 0
+TurnGoes forks to = (list_any cname_goes forks ≡ true) × OfOne ForkGoes forks to
+
+-- the draft has the arms that the forks tell, or it is the forks, by which no walk of type CNAME goes on
+abbrev pub IsDraftOf : List State → List Fork → Draft → Type 0
+IsDraftOf states forks (Done arms) = AllZip (IsArmOf states) arms forks
+IsDraftOf states forks (Left left) = (left ≡ forks) × (list_any cname_goes forks ≡ false)
+
+-- the draft is the given one, or the forks of the state for these types
+abbrev pub IsDraftOr : Setting → State → List Bool → Option Draft → Draft → Type 0
+IsDraftOr setting state types (Some given) draft = draft ≡ given
+IsDraftOr setting state types None draft = (forks : List Fork) × (draft ≡ Left forks) × AreForks setting state (has_bit types) forks
+
+-- the arms are those of the draft, or those that its forks tell
+abbrev pub IsFinishedOf : List State → Draft → List Arm → Type 0
+IsFinishedOf states (Done done) arms = arms ≡ done
+IsFinishedOf states (Left forks) arms = AllZip (IsArmOf states) arms forks
