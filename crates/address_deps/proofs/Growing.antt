@@ -19,8 +19,8 @@ use Rattle.net_model.proofs.Naming.{from_listed, is_listed}
 use Rattle.address_deps.specs.declared.told.AddressTold.{AddressTold}
 use Rattle.graph_form.proofs.Places.{place_of_item}
 use Rattle.address_deps.specs.Giving.{unset}
-use Rattle.address_deps.specs.Told.{AreTold}
-use Rattle.address_deps.specs.Sets.{absent, present, AreServers, IsGrowing, NoneMoreLearnt, IsShrinking, AreLearnt, NoneMoreLearntAt, IsLearntAt}
+use Rattle.address_deps.specs.Told.{AreServers, AreTold}
+use Rattle.address_deps.specs.Sets.{absent, present, IsGrowing, NoneMoreLearnt, IsShrinking, AreLearnt, NoneMoreLearntAt, IsLearntAt}
 use Rattle.address_deps.proofs.Waking.{gone_fewer, gone_there, put_more, put_there}
 use Rattle.address_deps.proofs.TwoSets.{none_below, one_below, is_least, all_above, one_above, is_greatest}
 

@@ -1,5 +1,7 @@
 pub mod Awaited
+pub mod Followed
 pub mod GivingNodes
+pub mod GraphPaths
 pub mod Growing
 pub mod Listing
 pub mod Marks
@@ -7,5 +9,6 @@ pub mod MoreFollowed
 pub mod Moves
 pub mod Rounds
 pub mod ServerSets
+pub mod TurnsTaken
 pub mod TwoSets
 pub mod Waking

@@ -11,7 +11,6 @@ use Rattle.dns_data.specs.Label.{label_cmp}
 use Rattle.dns_data.specs.Name.{Labels, name_cmp, name_eq}
 use Rattle.dns_data.proofs.Membership.{first_or_later, has_first, none_in_nil}
 use Rattle.dns_data.proofs.Names.{name_eq_decides}
-use Rattle.net_model.specs.declared.config.Config.{Config}
 use Rattle.address_deps.specs.declared.told.AddressTold.{AddressTold}
 use Rattle.graph_form.proofs.Paths.{same_item}
 use Rattle.dns_data.specs.Listed.{places_of}
@@ -50,9 +49,8 @@ module _ (place : ℕ) where
   pub listed_one : (name : Labels) (before after : List ℕ) (old mid new : Places) → before ≡ places_of old name
       → ((other : Labels) → name_eq name other ≡ false → places_of mid other ≡ places_of old other)
       → ((other : Labels) → places_of new other ≡ cond (name_eq name other) after (places_of mid other))
-      → Contains after place → ((other : ℕ) → Contains before other → Contains after other)
-      → ((other : ℕ) → Contains after other → Contains before other ⊎ (other ≡ place)) → IsListedFor place (name ∷ []) old new
-  listed_one name before after old mid new was others is there stays only =
+      → after ≡ before ++ place ∷ [] → IsListedFor place (name ∷ []) old new
+  listed_one name before after old mid new was others is made =
       record {
         listed = λ other has. elim (first_or_later name [] other has) [
           | inl same ↦ subst (λ (xs : List ℕ). Contains xs place) (sym (here other ((name_eq_decides name other).1 same))) there
@@ -62,6 +60,19 @@ module _ (place : ℕ) where
         only = λ other k has. only_by other k has (name_eq name other) refl;
       }
     where
+      there : Contains after place
+      there = subst (λ (xs : List ℕ). Contains xs place) (sym made) (Contains-append_right before (place ∷ []) place (has_first place []))
+
+      stays : (other : ℕ) → Contains before other → Contains after other
+      stays other has = subst (λ (xs : List ℕ). Contains xs other) (sym made) (Contains-append_left before (place ∷ []) other has)
+
+      only : (other : ℕ) → Contains after other → Contains before other ⊎ (other ≡ place)
+      only other has =
+          elim (Contains-append_cases before (place ∷ []) other (subst (λ (xs : List ℕ). Contains xs other) made has)) [
+            | inl old_one ↦ inl old_one
+            | inr last ↦ elim (first_or_later place [] other last) [ inl same ↦ inr (sym same) | inr none ↦ absurd (none_in_nil other none) ]
+          ]
+
       here : (other : Labels) → name_eq name other ≡ true → places_of new other ≡ after
       here other e = is other ∙ ap (λ (b : Bool). cond b after (places_of mid other)) e
 
@@ -84,6 +95,18 @@ module _ (place : ℕ) where
           ]
       only_by other k has false e = inl (subst (λ (xs : List ℕ). Contains xs k) (elsewhere other e) has)
 
+  -- to list a place for a name for which it is listed already, nothing changes
+  pub listed_already : (name : Labels) (places : Places) → Contains (places_of places name) place → IsListedFor place (name ∷ []) places places
+  listed_already name places there =
+      record {
+        listed = λ other has. elim (first_or_later name [] other has) [
+          | inl same ↦ subst (λ (n : Labels). Contains (places_of places n) place) same there
+          | inr none ↦ absurd (none_in_nil other none)
+        ];
+        stays = λ other k has. has;
+        only = λ other k has. inl has;
+      }
+
   -- to list a place for no name, nothing changes
   pub listed_none : (places : Places) → IsListedFor place [] places places
   listed_none places = record { listed = λ name has. absurd (none_in_nil name has); stays = λ name k has. has; only = λ name k has. inl has }
@@ -101,9 +124,9 @@ module _ (place : ℕ) where
         only = λ other k has. elim (one.only other k has) [ inl before ↦ some.only other k before | inr new_one ↦ inr new_one ];
       }
 
-module _ (config : Config) (told : List AddressTold) where
+module _ (told : List AddressTold) where
   -- where no place is listed for any name, all is listed for the servers before the first, for there are none
-  pub no_dependents : (places : Places) → ((name : Labels) → places_of places name ≡ []) → AreDependents config told 0 places
+  pub no_dependents : (places : Places) → ((name : Labels) → places_of places name ≡ []) → AreDependents told 0 places
   no_dependents places none =
       record {
         listed = λ place one within here name awaited. absurd (omega (arith, within));
@@ -112,8 +135,8 @@ module _ (config : Config) (told : List AddressTold) where
 
   -- where all is listed for the servers before one, and its place for the names for whose addresses it waits, all is
   -- listed for the servers up to it
-  pub more_dependents : (bound : ℕ) (one : AddressTold) (old new : Places) → slice_get told bound ≡ Some one → AreDependents config told bound old
-      → IsListedFor bound (told_awaits config one) old new → AreDependents config told (bound + 1) new
+  pub more_dependents : (bound : ℕ) (one : AddressTold) (old new : Places) → slice_get told bound ≡ Some one → AreDependents told bound old
+      → IsListedFor bound (told_awaits one) old new → AreDependents told (bound + 1) new
   more_dependents bound one old new here before put =
       record {
         listed = λ place other within there name awaited. elim (cases_lt place bound) [
@@ -122,7 +145,7 @@ module _ (config : Config) (told : List AddressTold) where
               let same : place ≡ bound = omega (arith, within, past) in
               let is : other ≡ one = same_item (slice_get told bound) other one (ap (slice_get told) (sym same) ∙ there) here in
               subst (Contains (places_of new name)) (sym same)
-              (put.listed name (subst (λ (t : AddressTold). Contains (told_awaits config t) name) is awaited))
+              (put.listed name (subst (λ (t : AddressTold). Contains (told_awaits t) name) is awaited))
         ];
         within = λ name place has. elim (put.only name place has) [
           | inl old_one ↦ (let less = before.within name place old_one in omega (arith, less))

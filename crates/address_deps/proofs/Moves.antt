@@ -20,8 +20,7 @@ use Rattle.address_deps.specs.declared.direction.Direction.TheVariants.{Adding, 
 use Rattle.dns_data.specs.Listed.{places_of}
 use Rattle.address_deps.specs.Dependents.{AreDependents}
 use Rattle.address_deps.specs.Direction.{IsFair, IsMoved, IsSettledAt, adds, unmoved}
-use Rattle.address_deps.specs.Told.{AreTold, IsToldOf}
-use Rattle.address_deps.specs.Sets.{AreServers}
+use Rattle.address_deps.specs.Told.{AreServers, AreTold, IsToldOf, Tells}
 use Rattle.address_deps.proofs.Growing.{grown, grown_less, shrunk, shrunk_less}
 use Rattle.address_deps.proofs.Waking.{gone_apart, gone_fewer, gone_there, told_at, put_apart, put_more, put_there, still_none_more, still_learnt}
 
@@ -47,13 +46,11 @@ module _ (config : Config) (told : List AddressTold) (names : List Labels) (plac
 
   -- what is told of the name of the server at the place answers whether the server can be learnt
   pub by_told : (one : AddressTold) (learnt : Bool) → slice_get told place ≡ Some one → AreServers config names
-      → ((rewrites : ℕ) (name : Labels) → AreServers config names → IsToldOf config rewrites name one
-      → (learnt ≡ true) ↔ Learns (following config rewrites names) name)
-      → TellsLearnt learnt
+      → (learnt ≡ true) ↔ Tells names one → TellsLearnt learnt
   by_told one learnt at servers tells rewrites are =
       let stands = told_at config rewrites told place server are here in
-      tells rewrites server.name servers
-      (subst (IsToldOf config rewrites server.name) (same_item (slice_get told place) stands.one one stands.here at) stands.is_told)
+      let is = subst (IsToldOf config rewrites server.name) (same_item (slice_get told place) stands.one one stands.here at) stands.is_told names servers in
+      (λ yes. is.0 (tells.0 yes), λ learns. tells.1 (is.1 learns))
 
   -- ---- it isn't added or dropped
 
@@ -103,7 +100,7 @@ pub moved_settled : (direction : Direction) (config : Config) (told : List Addre
 moved_settled direction config told place server old new here moved =
     kept_settled config told new place server here direction (moved_there direction server.name old new moved)
 
-module _ (config : Config) (told : List AddressTold) (places : map.BTreeMap Labels (List ℕ)) (dependents : AreDependents config told (length told) places)
+module _ (config : Config) (told : List AddressTold) (places : map.BTreeMap Labels (List ℕ)) (dependents : AreDependents told (length told) places)
     (old new : List Labels) (of_old : AreServers config old) (of_new : AreServers config new) (name : Labels) where
   -- servers that were settled before a server moved still are, unless they wait for it
   pub still_settled : (direction : Direction) → IsMoved direction name old new → (place : ℕ) → place < length told

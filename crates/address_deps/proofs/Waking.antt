@@ -12,8 +12,8 @@ use Rattle.graph_form.proofs.Paths.{same_item}
 use Rattle.graph_form.proofs.Places.{PairAt, pair_at}
 use Rattle.dns_data.specs.Listed.{places_of}
 use Rattle.address_deps.specs.Dependents.{AreDependents, told_awaits}
-use Rattle.address_deps.specs.Told.{AreTold, IsToldOf}
-use Rattle.address_deps.specs.Sets.{AreServers, NoneMoreLearntAt, IsLearntAt}
+use Rattle.address_deps.specs.Told.{AreServers, AreTold, IsToldOf}
+use Rattle.address_deps.specs.Sets.{NoneMoreLearntAt, IsLearntAt}
 use Rattle.address_deps.proofs.Awaited.{AreAlike, alike_back, same_told}
 use Rattle.address_deps.proofs.Rounds.{there_or_not}
 
@@ -42,11 +42,11 @@ told_at config rewrites told place server are here = by (pair_at (ToldFor config
         is_told = subst (λ (s : Server). ToldFor config rewrites s pair.other) same pair.paired;
       }
 
-module _ (config : Config) (told : List AddressTold) (places : map.BTreeMap Labels (List ℕ)) (dependents : AreDependents config told (length told) places)
+module _ (config : Config) (told : List AddressTold) (places : map.BTreeMap Labels (List ℕ)) (dependents : AreDependents told (length told) places)
     (one other : List Labels) (of_one : AreServers config one) (of_other : AreServers config other)
     (name : Labels) (apart : (server : Labels) → name_eq name server ≡ false → is_among one server ≡ is_among other server) where
   alike : (place : ℕ) → place < length told → (Contains (places_of places name) place → ⊥) → (what : AddressTold) → slice_get told place ≡ Some what
-      → AreAlike (told_awaits config what) one other
+      → AreAlike (told_awaits what) one other
   alike place within not_listed what here =
       record { name = name; apart = apart; not_awaited = λ awaited. not_listed (dependents.listed place what within here name awaited) }
 
@@ -60,7 +60,8 @@ module _ (config : Config) (told : List AddressTold) (places : map.BTreeMap Labe
             let at = told_at config rewrites told place server are here in
             more server.name
             (closed rewrites server are here
-            (same_told rewrites config server.name at.one at.is_told other one (alike_back (told_awaits config at.one) one other (alike place within not_listed at.one at.here)) of_other of_one learns)))
+            ((at.is_told one of_one).0
+            (same_told at.one other one (alike_back (told_awaits at.one) one other (alike place within not_listed at.one at.here)) ((at.is_told other of_other).1 learns)))))
       ]
 
   -- a server that can be learnt with some names still can with fewer, if it doesn't wait for the one taken away
@@ -71,8 +72,9 @@ module _ (config : Config) (told : List AddressTold) (places : map.BTreeMap Labe
         | inl listed ↦ inl listed
         | inr not_listed ↦ inr (λ rewrites server are here has.
             let at = told_at config rewrites told place server are here in
-            same_told rewrites config server.name at.one at.is_told one other (alike place within not_listed at.one at.here) of_one of_other
-            (learnt rewrites server are here (fewer server.name has)))
+            (at.is_told other of_other).0
+            (same_told at.one one other (alike place within not_listed at.one at.here)
+            ((at.is_told one of_one).1 (learnt rewrites server are here (fewer server.name has)))))
       ]
 
 -- the server at a place

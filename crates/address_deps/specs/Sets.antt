@@ -8,7 +8,7 @@ use Rattle.net_model.specs.Learnt.{AfterRounds, Learns}
 use Rattle.net_model.specs.Nearest.{server_names}
 use Rattle.net_model.specs.Step.{following}
 use Rattle.address_deps.specs.Giving.{unset}
-use Rattle.address_deps.specs.Told.{AreTold}
+use Rattle.address_deps.specs.Told.{AreServers, AreTold}
 use Rattle.address_deps.specs.declared.told.AddressTold.{AddressTold}
 
 -- how many servers aren't in the list
@@ -31,10 +31,6 @@ AreBelow config rewrites rounds followed = (learnt : List Labels) → AfterRound
 abbrev pub AreAbove : Config → ℕ → ℕ → List Labels → Type 0
 AreAbove config rewrites rounds followed =
     (learnt : List Labels) → AfterRounds config rewrites rounds (server_names config) learnt → Within learnt followed
-
--- each name of the list is a configured server's
-abbrev pub AreServers : Config → List Labels → Type 0
-AreServers config names = (name : Labels) → is_among names name ≡ true → is_among (server_names config) name ≡ true
 
 -- The search for the least set: each name is learnt after as many rounds as servers were added.
 pub record IsGrowing (config : Config) (told : List AddressTold) (learnt : List Labels) : Type 0 where

@@ -1,20 +1,57 @@
 -- What tells whether addresses of servers' names are learnt.
-use Rattle.std.specs.Prelude.{◌≡◌, ◌↔◌, ℕ, true, List}
+use Rattle.std.specs.Prelude.{◌≡◌, ◌↔◌, ◌⊎◌, ◌==◌, ◌&&◌, ◌∷◌, [], ℕ, Bool, true, false, Contains, List, Option, Some, None, length, slice_get}
 use Rattle.std.specs.List.{AllZip}
-use Rattle.dns_data.specs.Name.{Labels}
+use Rattle.std.specs.Option.{option_map_or}
+use Rattle.dns_data.specs.Name.{Labels, is_among}
 use Rattle.net_model.specs.declared.config.Config.{Config}
 use Rattle.net_model.specs.Learnt.{Learns}
 use Rattle.net_model.specs.Nearest.{server_names}
 use Rattle.net_model.specs.Step.{following}
-use Rattle.graph_form.specs.GraphOf.{IsGraphOf}
 use Rattle.address_deps.specs.declared.told.AddressTold.{AddressTold}
-use Rattle.address_deps.specs.declared.told.AddressTold.TheVariants.{Known, ByGraph}
+use Rattle.address_deps.specs.declared.told.AddressTold.TheVariants.{Known, ByPaths}
+use Rattle.address_deps.specs.declared.told.Turn.{Turn}
+use Rattle.address_deps.specs.declared.told.Turn.TheVariants.{Gives, Fails, Goes, Waits}
 
--- what is told of the name holds: its address can be learnt or can't, whichever servers are followed; or the graph is
--- that of its walks while all configured servers are followed
+-- each name of the list is a configured server's
+abbrev pub AreServers : Config → List Labels → Type 0
+AreServers config names = (name : Labels) → is_among names name ≡ true → is_among (server_names config) name ≡ true
+
+-- whether a path gives an address that takes this turn and goes on from a node from which it does or doesn't; where the
+-- turn is an end, the path has no other turn behind it
+abbrev pub turn_gives : List Labels → (ℕ → Bool) → Bool → Turn → Bool
+turn_gives followed on is_last Gives = is_last
+turn_gives followed on is_last Fails = false
+turn_gives followed on is_last (Goes to) = on to
+turn_gives followed on is_last (Waits to name) = is_among followed name.now && on to
+
+-- whether the path gives an address that takes the turn with this number
+abbrev pub node_gives : List Labels → (ℕ → Bool) → ℕ → Bool → Option (List Turn) → Bool
+node_gives followed on number is_last None = false
+node_gives followed on number is_last (Some turns) = option_map_or (turn_gives followed on is_last) (slice_get turns number) false
+
+-- whether the path with these numbers from the node at a place gives an address while these servers are followed
+abbrev pub gives_from : List Labels → List (List Turn) → List ℕ → ℕ → Bool
+gives_from followed nodes [] at = false
+gives_from followed nodes (number ∷ numbers) at =
+    node_gives followed (gives_from followed nodes numbers) number (length numbers == 0) (slice_get nodes at)
+
+-- a path from one of the starts gives an address
+pub record PathGives (followed : List Labels) (nodes : List (List Turn)) (starts : List ℕ) : Type 0 where
+  pub at : ℕ
+  pub numbers : List ℕ
+  pub starts_there : Contains starts at
+  pub gives : gives_from followed nodes numbers at ≡ true
+
+-- as is told, an address can be learnt while these servers are followed
+abbrev pub Tells : List Labels → AddressTold → Type 0
+Tells followed (Known learnt) = learnt ≡ true
+Tells followed (ByPaths paths) = PathGives followed paths.four paths.starts ⊎ PathGives followed paths.six paths.starts
+
+-- what is told of the name holds: whichever configured servers are followed, an address of the name can be learnt exactly
+-- where it is told so
 abbrev pub IsToldOf : Config → ℕ → Labels → AddressTold → Type 0
-IsToldOf config rewrites name (Known learnt) = (followed : List Labels) → (learnt ≡ true) ↔ Learns (following config rewrites followed) name
-IsToldOf config rewrites name (ByGraph graph) = IsGraphOf (following config rewrites (server_names config)) name graph
+IsToldOf config rewrites name told =
+    (followed : List Labels) → AreServers config followed → Tells followed told ↔ Learns (following config rewrites followed) name
 
 -- for each configured server, in order, what is told of its name holds
 abbrev pub AreTold : Config → ℕ → List AddressTold → Type 0

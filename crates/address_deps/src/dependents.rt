@@ -1,47 +1,34 @@
 //! Who waits for the address of a name server.
 
-ghost use Rattle.std.specs.Prelude.{◌≡◌, ◌⊎◌, ◌++◌, ◌∷◌, [], ℕ, true, false, Contains, IfOk, OnOk, length, map};
+ghost use Rattle.std.specs.Prelude.{◌≡◌, ◌++◌, ◌∷◌, [], true, false, Contains, IfOk, OnOk, length, map};
+ghost use Rattle.std.specs.List.{flat_map};
 ghost use Rattle.dns_data.specs.Name.{Labels, name_eq};
 ghost use Rattle.dns_data.specs.Listed.{places_of};
-ghost use Rattle.address_deps.specs.Dependents.{
-  AreDependents,
-  IsListedFor,
-  branch_awaits,
-  graph_awaits,
-  hop_awaits,
-  told_awaits,
-};
+ghost use Rattle.address_deps.specs.Dependents.{AreDependents, IsListedFor, told_awaits, turn_awaits, turns_await};
 
-use crate::told::AddressTold;
+use crate::told::{AddressTold, Turn};
 use dns_data::{List, Name, NoMemory};
-use graph_form::{Branch, Graph, typed_branches};
-use net_model::Hop;
 use std::alloc::Global;
 use std::collections::BTreeMap;
-use zone_lookup::Hosts;
 
-/// For each name server the places of the servers that wait for its address: a walk of their names goes on by a referral to
-/// it that is followed only where its address is learnt.
+/// For each name server the places of the servers that wait for its address: a path of their names goes on while it is
+/// followed.
 #[derive(Debug, Drop)]
 pub(crate) struct Dependents {
     places: BTreeMap<Name, List<usize>>,
 }
 
 impl Dependents {
-    /// Who waits for each name server's address, by what tells whether the servers' own are learnt. Each branch of a graph
-    /// is passed over once.
-    pub(crate) fn of(
-        alloc: Global,
-        hosts: &Hosts<'_>,
-        told: &[AddressTold],
-    ) -> Result<Dependents, NoMemory>
-        ensures { IfOk result (λ dependents. AreDependents hosts.now told.now (length told.now) dependents.places) }
+    /// Who waits for each name server's address, by what tells whether the servers' own are learnt. Each turn is passed over
+    /// once.
+    pub(crate) fn of(alloc: Global, told: &[AddressTold<'_>]) -> Result<Dependents, NoMemory>
+        ensures { IfOk result (λ dependents. AreDependents told.now (length told.now) dependents.places) }
     {
         let mut dependents = Dependents {
             places: BTreeMap::new(alloc),
         };
         for place in 0..told.len() {
-            let names = names_for(alloc, hosts, &told[place])?;
+            let names = names_for(alloc, &told[place])?;
             dependents.put_all(alloc, names.as_slice(), place)?;
         }
         Ok(dependents)
@@ -67,12 +54,15 @@ impl Dependents {
         Ok(())
     }
 
-    /// Lists a place for the name.
+    /// Lists a place for the name, unless it is the last that is listed.
     fn put(&mut self, alloc: Global, name: &Name, place: usize) -> Result<(), NoMemory>
         ensures { OnOk result (IsListedFor place (name.now ∷ []) self.old.places self.new.places) }
     {
+        if is_last(self.on(name), place) {
+            return Ok(());
+        }
         let mut listed = self.take(alloc, name);
-        put_once(&mut listed, place)?;
+        listed.push(place)?;
         self.places.insert(name.copy(alloc)?, listed)?;
         Ok(())
     }
@@ -89,18 +79,6 @@ impl Dependents {
     }
 }
 
-/// Puts a place behind the others, unless it is the last.
-fn put_once(listed: &mut List<usize>, place: usize) -> Result<(), NoMemory>
-    ensures there { OnOk result (Contains listed.new place) }
-    ensures stays { OnOk result ((other : ℕ) → Contains listed.old other → Contains listed.new other) }
-    ensures only { OnOk result ((other : ℕ) → Contains listed.new other → Contains listed.old other ⊎ (other ≡ place)) }
-{
-    if is_last(listed.items(), place) {
-        return Ok(());
-    }
-    listed.push(place)
-}
-
 /// Whether the place is the last of the list.
 fn is_last(listed: &[usize], place: usize) -> bool
     ensures { result ≡ true → Contains listed.now place }
@@ -112,60 +90,43 @@ fn is_last(listed: &[usize], place: usize) -> bool
 }
 
 /// The names of the name servers for whose addresses a server waits, by what tells whether its own is learnt.
-fn names_for<'g>(
-    alloc: Global,
-    hosts: &Hosts<'_>,
-    told: &'g AddressTold,
-) -> Result<Vec<&'g Name>, NoMemory>
-    ensures { IfOk result (λ names. map (λ name. name.now) names.items ≡ told_awaits hosts.now told.now) }
+fn names_for<'a>(alloc: Global, told: &AddressTold<'a>) -> Result<Vec<&'a Name>, NoMemory>
+    ensures { IfOk result (λ names. map (λ name. name.now) names.items ≡ told_awaits told.now) }
 {
-    match told {
-        AddressTold::Known(_) => Ok(Vec::new(alloc)),
-        AddressTold::ByGraph(graph) => names_awaited(alloc, hosts, graph),
-    }
-}
-
-/// The names of the name servers for whose addresses a graph waits, branch by branch.
-fn names_awaited<'g>(
-    alloc: Global,
-    hosts: &Hosts<'_>,
-    graph: &'g Graph,
-) -> Result<Vec<&'g Name>, NoMemory>
-    ensures { IfOk result (λ names. map (λ name. name.now) names.items ≡ graph_awaits hosts.now graph.now) }
-{
-    let all = typed_branches(alloc, graph)?;
     let mut names = Vec::new(alloc);
-    for one in all.as_slice() {
-        put_awaited(hosts, one.branch, &mut names)?;
+    if let AddressTold::ByPaths(paths) = told {
+        put_nodes(paths.four.items(), &mut names)?;
+        put_nodes(paths.six.items(), &mut names)?;
     }
     Ok(names)
 }
 
-/// Puts the name of the name server for whose address a branch waits behind the others, if it waits for one.
-fn put_awaited<'g>(
-    hosts: &Hosts<'_>,
-    branch: &'g Branch,
-    names: &mut Vec<&'g Name>,
-) -> Result<(), NoMemory>
-    ensures { OnOk result (map (λ name. name.now) names.new.items ≡ map (λ name. name.now) names.old.items ++ branch_awaits hosts.now branch.now) }
+/// Puts the names of the name servers behind the others for whose addresses turns of the nodes wait.
+fn put_nodes<'a>(nodes: &[List<Turn<'a>>], names: &mut Vec<&'a Name>) -> Result<(), NoMemory>
+    ensures { OnOk result (map (λ name. name.now) names.new.items ≡ map (λ name. name.now) names.old.items ++ flat_map turns_await nodes.now) }
 {
-    match branch {
-        Branch::Go { hop, .. } => put_hop(hosts, hop.get(), names),
-        Branch::End { .. } => Ok(()),
+    for turns in nodes {
+        put_turns(turns.items(), names)?;
     }
+    Ok(())
 }
 
-/// Puts the name of the name server for whose address a hop waits behind the others, if it waits for one.
-fn put_hop<'g>(hosts: &Hosts<'_>, hop: &'g Hop, names: &mut Vec<&'g Name>) -> Result<(), NoMemory>
-    ensures { OnOk result (map (λ name. name.now) names.new.items ≡ map (λ name. name.now) names.old.items ++ hop_awaits hosts.now hop.now) }
+/// Puts the names of the name servers behind the others for whose addresses the turns wait.
+fn put_turns<'a>(turns: &[Turn<'a>], names: &mut Vec<&'a Name>) -> Result<(), NoMemory>
+    ensures { OnOk result (map (λ name. name.now) names.new.items ≡ map (λ name. name.now) names.old.items ++ turns_await turns.now) }
 {
-    match hop {
-        Hop::Refer(cut) => {
-            if !hosts.may_follow(cut, &[]) {
-                names.push(&cut.ns)?;
-            }
-            Ok(())
-        }
-        Hop::Rewrite { .. } => Ok(()),
+    for turn in turns {
+        put_turn(turn, names)?;
     }
+    Ok(())
+}
+
+/// Puts the name of the name server behind the others for whose address the turn waits, if it waits for one.
+fn put_turn<'a>(turn: &Turn<'a>, names: &mut Vec<&'a Name>) -> Result<(), NoMemory>
+    ensures { OnOk result (map (λ name. name.now) names.new.items ≡ map (λ name. name.now) names.old.items ++ turn_awaits turn.now) }
+{
+    if let Turn::Waits(_, name) = turn {
+        names.push(*name)?;
+    }
+    Ok(())
 }

@@ -51,13 +51,13 @@ impl Direction {
 pub(crate) fn settled(
     alloc: Global,
     hosts: &Hosts<'_>,
-    told: &[AddressTold],
+    told: &[AddressTold<'_>],
     dependents: &Dependents,
     direction: Direction,
     begun: ServerSet,
 ) -> Result<ServerSet, NoMemory>
     requires many { length told.now ≡ length hosts.now.servers }
-    requires dependents { AreDependents hosts.now told.now (length told.now) dependents.now.places }
+    requires dependents { AreDependents told.now (length told.now) dependents.now.places }
     requires fair { IsFair direction hosts.now told.now begun }
     ensures fair { IfOk result (IsFair direction hosts.now told.now) }
     ensures settled { IfOk result (λ names. (place : ℕ) → place < length told.now → IsSettledAt direction hosts.now told.now names place) }
@@ -79,7 +79,7 @@ pub(crate) fn settled(
 }
 
 /// The places of all servers.
-fn all_places(alloc: Global, told: &[AddressTold]) -> Result<List<usize>, NoMemory>
+fn all_places(alloc: Global, told: &[AddressTold<'_>]) -> Result<List<usize>, NoMemory>
     ensures { IfOk result (AreAllPlaces (length told.now)) }
 {
     let mut places = List::new(alloc);
@@ -93,14 +93,14 @@ fn all_places(alloc: Global, told: &[AddressTold]) -> Result<List<usize>, NoMemo
 fn round(
     alloc: Global,
     hosts: &Hosts<'_>,
-    told: &[AddressTold],
+    told: &[AddressTold<'_>],
     dependents: &Dependents,
     direction: Direction,
     waiting: &[usize],
     names: &mut ServerSet,
 ) -> Result<List<usize>, NoMemory>
     requires many { length told.now ≡ length hosts.now.servers }
-    requires dependents { AreDependents hosts.now told.now (length told.now) dependents.now.places }
+    requires dependents { AreDependents told.now (length told.now) dependents.now.places }
     requires round { IsRoundOf direction hosts.now told.now names.old waiting.now }
     ensures round { IfOk result (IsRoundOf direction hosts.now told.now names.new) }
     ensures fewer { IfOk result (λ next. (length next == 0) ≡ false → unmoved direction hosts.now.servers names.new < unmoved direction hosts.now.servers names.old) }
@@ -119,7 +119,7 @@ fn round(
 fn move_at(
     alloc: Global,
     hosts: &Hosts<'_>,
-    told: &[AddressTold],
+    told: &[AddressTold<'_>],
     direction: Direction,
     place: usize,
     names: &mut ServerSet,

@@ -1,77 +1,64 @@
-//! Whether an address of a graph's query can be learnt.
+//! Whether an address of a server's name can be learnt, by what is told of the name.
 
-ghost use Rattle.std.specs.Prelude.{◌≡◌, ◌↔◌, ◌<◌, ℕ, true, false, length, slice_get, Some, IfOk};
+ghost use Rattle.std.specs.Prelude.{◌≡◌, ◌↔◌, ◌⊎◌, ◌<◌, ℕ, true, false, length, slice_get, List, Some, IfOk};
 ghost use Rattle.std.specs.List.{list_any};
-ghost use Rattle.dns_data.specs.Name.{Labels, name_eq};
-ghost use Rattle.net_model.specs.Learnt.{LearnsBy, Learns};
-ghost use Rattle.net_model.specs.Nearest.{server_names};
-ghost use Rattle.net_model.specs.Step.{following};
-ghost use Rattle.graph_form.specs.Graph.{branches_of};
-ghost use Rattle.graph_form.specs.GraphOf.{IsGraphOf};
-ghost use Rattle.graph_form.specs.declared.node.Node.{Node};
-ghost use Rattle.address_deps.specs.Told.{IsToldOf};
-ghost use Rattle.address_deps.specs.Giving.{may_take, is_marked, branch_gives, unmarked, AreGiving, AreComplete};
+ghost use Rattle.address_deps.specs.Told.{PathGives, Tells, turn_gives};
+ghost use Rattle.address_deps.specs.Giving.{AreComplete, AreGiving, is_marked, names_followed, unmarked};
+ghost use Rattle.address_deps.specs.declared.told.Turn.{Turn as TurnOf};
 
-use crate::server_set::ServerSet;
-use crate::told::AddressTold;
-use dns_data::{NoMemory, RrType};
-use graph_form::{Branch, Graph};
-use net_model::Hop;
+use crate::server_set::{Followed, ServerSet};
+use crate::told::{AddressPaths, AddressTold, Turn};
+use dns_data::{List, NoMemory};
 use std::alloc::Global;
-use zone_lookup::{Hosts, gives_address};
+use zone_lookup::Hosts;
 
-/// Whether an address of a server's name can be learnt while these servers are followed, by what tells it of the name.
+/// Whether an address of a server's name can be learnt while these servers are followed, by what is told of the name.
 pub(crate) fn learns(
     alloc: Global,
     hosts: &Hosts<'_>,
-    told: &AddressTold,
+    told: &AddressTold<'_>,
     followed: &ServerSet,
 ) -> Result<bool, NoMemory>
-    ensures { IfOk result (λ learns. (rewrites : ℕ) (name : Labels)
-        → ((other : Labels) → list_any (name_eq other) followed.now ≡ true → list_any (name_eq other) (server_names hosts.now) ≡ true)
-        → IsToldOf hosts.now rewrites name told.now
-        → (learns ≡ true) ↔ Learns (following hosts.now rewrites followed.now) name) }
+    ensures { IfOk result (λ learns. (learns ≡ true) ↔ Tells followed.now told.now) }
 {
     match told {
         AddressTold::Known(learnt) => Ok(*learnt),
-        AddressTold::ByGraph(graph) => learns_in(alloc, hosts, graph, followed),
+        AddressTold::ByPaths(paths) => {
+            learns_by_paths(alloc, hosts, paths, &Followed::Named(followed))
+        }
     }
 }
 
-/// Whether an address of the graph's query can be learnt while these servers are followed.
-fn learns_in(
+/// Whether one of the paths gives an address while these servers are followed.
+pub(crate) fn learns_by_paths(
     alloc: Global,
     hosts: &Hosts<'_>,
-    graph: &Graph,
-    followed: &ServerSet,
+    paths: &AddressPaths<'_>,
+    followed: &Followed<'_>,
 ) -> Result<bool, NoMemory>
-    ensures { IfOk result (λ learns. (rewrites : ℕ) (query : Labels)
-        → ((name : Labels) → list_any (name_eq name) followed.now ≡ true → list_any (name_eq name) (server_names hosts.now) ≡ true)
-        → IsGraphOf (following hosts.now rewrites (server_names hosts.now)) query graph.now
-        → (learns ≡ true) ↔ Learns (following hosts.now rewrites followed.now) query) }
+    ensures { IfOk result (λ learns. (learns ≡ true)
+        ↔ (PathGives (names_followed hosts.now followed.now) paths.now.four paths.now.starts ⊎ PathGives (names_followed hosts.now followed.now) paths.now.six paths.now.starts)) }
 {
-    let four = learns_by(alloc, hosts, graph, followed, RrType::A)?;
-    let six = learns_by(alloc, hosts, graph, followed, RrType::Aaaa)?;
+    let starts = paths.starts.items();
+    let four = some_gives(alloc, hosts, paths.four.items(), starts, followed)?;
+    let six = some_gives(alloc, hosts, paths.six.items(), starts, followed)?;
     Ok(four || six)
 }
 
-/// Whether a walk of the graph's query with this type gives an address.
-fn learns_by(
+/// Whether a path of these nodes' turns from one of the starts gives an address.
+fn some_gives(
     alloc: Global,
     hosts: &Hosts<'_>,
-    graph: &Graph,
-    followed: &ServerSet,
-    rtype: RrType,
+    nodes: &[List<Turn<'_>>],
+    starts: &[u32],
+    followed: &Followed<'_>,
 ) -> Result<bool, NoMemory>
-    ensures { IfOk result (λ learns. (rewrites : ℕ) (query : Labels)
-        → ((name : Labels) → list_any (name_eq name) followed.now ≡ true → list_any (name_eq name) (server_names hosts.now) ≡ true)
-        → IsGraphOf (following hosts.now rewrites (server_names hosts.now)) query graph.now
-        → (learns ≡ true) ↔ LearnsBy (following hosts.now rewrites followed.now) query rtype) }
+    ensures { IfOk result (λ gives. (gives ≡ true) ↔ PathGives (names_followed hosts.now followed.now) nodes.now starts.now) }
 {
-    let mut marks = vec![in alloc; false; graph.nodes() as usize]?;
+    let mut marks = vec![in alloc; false; nodes.len()]?;
     let giving = marks.as_mut_slice();
-    while mark_more(hosts, graph, followed, rtype, giving) {}
-    Ok(some_marked(giving, graph.starts()))
+    while mark_more(hosts, nodes, followed, giving) {}
+    Ok(some_marked(giving, starts))
 }
 
 /// Whether one of the nodes with these numbers is marked.
@@ -85,22 +72,21 @@ fn some_marked(marks: &[bool], nodes: &[u32]) -> bool
 /// is marked.
 fn mark_more(
     hosts: &Hosts<'_>,
-    graph: &Graph,
-    followed: &ServerSet,
-    rtype: RrType,
+    nodes: &[List<Turn<'_>>],
+    followed: &Followed<'_>,
     marks: &mut [bool],
 ) -> bool
-    requires room { length marks.old ≡ length graph.now.nodes }
-    requires giving { AreGiving hosts.now followed.now graph.now rtype marks.old }
-    ensures giving { AreGiving hosts.now followed.now graph.now rtype marks.new }
-    ensures complete { result ≡ false → AreComplete hosts.now followed.now graph.now rtype marks.new }
+    requires room { length marks.old ≡ length nodes.now }
+    requires giving { AreGiving (names_followed hosts.now followed.now) nodes.now marks.old }
+    ensures giving { AreGiving (names_followed hosts.now followed.now) nodes.now marks.new }
+    ensures complete { result ≡ false → AreComplete (names_followed hosts.now followed.now) nodes.now marks.new }
     ensures fewer { result ≡ true → unmarked marks.new < unmarked marks.old }
 {
     let mut more = false;
-    let mut left = graph.nodes();
+    let mut left = nodes.len();
     while left > 0 {
         left -= 1;
-        if mark_node(hosts, graph, followed, rtype, left, marks) {
+        if mark_node(hosts, nodes, followed, left, marks) {
             more = true;
         }
     }
@@ -110,56 +96,47 @@ fn mark_more(
 /// Marks a node, if it isn't marked, from which a path by marked ones gives an address; gives whether it was.
 fn mark_node(
     hosts: &Hosts<'_>,
-    graph: &Graph,
-    followed: &ServerSet,
-    rtype: RrType,
-    at: u32,
+    nodes: &[List<Turn<'_>>],
+    followed: &Followed<'_>,
+    at: usize,
     marks: &mut [bool],
 ) -> bool
-    requires room { length marks.old ≡ length graph.now.nodes }
-    requires node { at < length graph.now.nodes }
-    requires giving { AreGiving hosts.now followed.now graph.now rtype marks.old }
-    ensures giving { AreGiving hosts.now followed.now graph.now rtype marks.new }
+    requires room { length marks.old ≡ length nodes.now }
+    requires node { at < length nodes.now }
+    requires giving { AreGiving (names_followed hosts.now followed.now) nodes.now marks.old }
+    ensures giving { AreGiving (names_followed hosts.now followed.now) nodes.now marks.new }
     ensures fewer { result ≡ true → unmarked marks.new < unmarked marks.old }
     ensures same { result ≡ false → marks.new ≡ marks.old }
-    ensures closed { result ≡ false → (node : Node) → slice_get graph.now.nodes at ≡ Some node → is_marked marks.old at ≡ false → list_any (branch_gives hosts.now followed.now marks.old) (branches_of node rtype) ≡ false }
+    ensures closed { result ≡ false → (turns : List TurnOf) → slice_get nodes.now at ≡ Some turns → is_marked marks.old at ≡ false → list_any (turn_gives (names_followed hosts.now followed.now) (is_marked marks.old) true) turns ≡ false }
 {
-    if marks[at as usize] {
+    if marks[at] {
         return false;
     }
-    if !some_gives(hosts, followed, marks, graph.node(at).branches(rtype)) {
+    if !one_gives(hosts, followed, marks, nodes[at].items()) {
         return false;
     }
-    marks[at as usize] = true;
+    marks[at] = true;
     true
 }
 
-/// Whether one of the branches gives an address.
-fn some_gives(hosts: &Hosts<'_>, followed: &ServerSet, marks: &[bool], branches: &[Branch]) -> bool
-    ensures { result ≡ list_any (branch_gives hosts.now followed.now marks.now) branches.now }
+/// Whether by one of the turns a path gives an address.
+fn one_gives(hosts: &Hosts<'_>, followed: &Followed<'_>, marks: &[bool], turns: &[Turn<'_>]) -> bool
+    ensures { result ≡ list_any (turn_gives (names_followed hosts.now followed.now) (is_marked marks.now) true) turns.now }
 {
-    branches
+    turns
         .iter()
-        .any(|branch| branch_gives(hosts, followed, marks, branch))
+        .any(|turn| turn_gives(hosts, followed, marks, turn))
 }
 
-/// Whether a branch gives an address, or leads by an open hop to a marked node.
-fn branch_gives(hosts: &Hosts<'_>, followed: &ServerSet, marks: &[bool], branch: &Branch) -> bool
-    ensures { result ≡ branch_gives hosts.now followed.now marks.now branch.now }
+/// Whether by the turn a path gives an address: it ends in one, or goes on to a marked node.
+fn turn_gives(hosts: &Hosts<'_>, followed: &Followed<'_>, marks: &[bool], turn: &Turn<'_>) -> bool
+    ensures { result ≡ turn_gives (names_followed hosts.now followed.now) (is_marked marks.now) true turn.now }
 {
-    match branch {
-        Branch::Go { hop, to } => may_take(hosts, followed, hop.get()) && is_marked(marks, *to),
-        Branch::End { leaf, .. } => gives_address(leaf.get()),
-    }
-}
-
-/// Whether the name server of a hop may be followed. A rewrite is always taken.
-fn may_take(hosts: &Hosts<'_>, followed: &ServerSet, hop: &Hop) -> bool
-    ensures { result ≡ may_take hosts.now followed.now hop.now }
-{
-    match hop {
-        Hop::Refer(cut) => hosts.may_follow(cut, &[]) || followed.has(&cut.ns),
-        Hop::Rewrite { .. } => true,
+    match turn {
+        Turn::Gives => true,
+        Turn::Fails => false,
+        Turn::Goes(to) => is_marked(marks, *to),
+        Turn::Waits(to, name) => followed.has(hosts, name) && is_marked(marks, *to),
     }
 }
 

@@ -2,12 +2,14 @@
 
 ghost use Rattle.std.specs.Prelude.{◌≡◌, [], ◌||◌, ◌&&◌, not, OnOk};
 ghost use Rattle.std.specs.List.{list_any};
-ghost use Rattle.dns_data.specs.Name.{Labels, name_eq};
+ghost use Rattle.dns_data.specs.Name.{Labels, is_among, name_eq};
+ghost use Rattle.address_deps.specs.Giving.{names_followed};
 
 use dns_data::{Name, NoMemory};
 use std::alloc::Global;
 use std::collections::BTreeSet;
 use std::marker::Model;
+use zone_lookup::Hosts;
 
 /// Names of servers.
 #[derive(Debug, Drop)]
@@ -53,5 +55,24 @@ impl ServerSet {
         ensures { (other : Labels) → list_any (name_eq other) self.new ≡ (not (name_eq name.now other) && list_any (name_eq other) self.old) }
     {
         self.names.remove(name);
+    }
+}
+
+/// The servers that are followed: all that are configured, or those of a set.
+#[derive(Clone, Copy, Debug)]
+pub(crate) enum Followed<'s> {
+    Configured,
+    Named(&'s ServerSet),
+}
+
+impl<'s> Followed<'s> {
+    /// Whether the server of this name is followed.
+    pub(crate) fn has(&self, hosts: &Hosts<'_>, name: &Name) -> bool
+        ensures { result ≡ is_among (names_followed hosts.now self.now) name.now }
+    {
+        match self {
+            Followed::Configured => hosts.host(name).is_some(),
+            Followed::Named(names) => names.has(name),
+        }
     }
 }

@@ -21,7 +21,11 @@ use zone_lookup::Hosts;
 /// The least and the greatest set of learnt addresses of a configuration, each in the order of the configured servers, by
 /// what is told of the servers' names, in their order. The trees of all zones are built for it: where they are built
 /// already, call `dependencies_among`.
-pub fn dependencies(alloc: Global, config: &Config, told: &[AddressTold]) -> Result<Deps, NoMemory>
+pub fn dependencies(
+    alloc: Global,
+    config: &Config,
+    told: &[AddressTold<'_>],
+) -> Result<Deps, NoMemory>
     requires { length told.now ≡ length config.now.servers }
     ensures least { IfOk result (λ deps. (rewrites : ℕ) → AreTold config.now rewrites told.now → IsLeast config.now rewrites deps.least) }
     ensures greatest { IfOk result (λ deps. (rewrites : ℕ) → AreTold config.now rewrites told.now → IsGreatest config.now rewrites deps.greatest) }
@@ -35,13 +39,13 @@ pub fn dependencies(alloc: Global, config: &Config, told: &[AddressTold]) -> Res
 pub fn dependencies_among(
     alloc: Global,
     hosts: &Hosts<'_>,
-    told: &[AddressTold],
+    told: &[AddressTold<'_>],
 ) -> Result<Deps, NoMemory>
     requires { length told.now ≡ length hosts.now.servers }
     ensures least { IfOk result (λ deps. (rewrites : ℕ) → AreTold hosts.now rewrites told.now → IsLeast hosts.now rewrites deps.least) }
     ensures greatest { IfOk result (λ deps. (rewrites : ℕ) → AreTold hosts.now rewrites told.now → IsGreatest hosts.now rewrites deps.greatest) }
 {
-    let dependents = Dependents::of(alloc, hosts, told)?;
+    let dependents = Dependents::of(alloc, told)?;
     Ok(Deps {
         least: least(alloc, hosts, told, &dependents)?,
         greatest: greatest(alloc, hosts, told, &dependents)?,
@@ -52,11 +56,11 @@ pub fn dependencies_among(
 fn least(
     alloc: Global,
     hosts: &Hosts<'_>,
-    told: &[AddressTold],
+    told: &[AddressTold<'_>],
     dependents: &Dependents,
 ) -> Result<List<Name>, NoMemory>
     requires many { length told.now ≡ length hosts.now.servers }
-    requires dependents { AreDependents hosts.now told.now (length told.now) dependents.now.places }
+    requires dependents { AreDependents told.now (length told.now) dependents.now.places }
     ensures { IfOk result (λ least. (rewrites : ℕ) → AreTold hosts.now rewrites told.now → IsLeast hosts.now rewrites least) }
 {
     let none = ServerSet::new(alloc);
@@ -68,11 +72,11 @@ fn least(
 fn greatest(
     alloc: Global,
     hosts: &Hosts<'_>,
-    told: &[AddressTold],
+    told: &[AddressTold<'_>],
     dependents: &Dependents,
 ) -> Result<List<Name>, NoMemory>
     requires many { length told.now ≡ length hosts.now.servers }
-    requires dependents { AreDependents hosts.now told.now (length told.now) dependents.now.places }
+    requires dependents { AreDependents told.now (length told.now) dependents.now.places }
     ensures { IfOk result (λ greatest. (rewrites : ℕ) → AreTold hosts.now rewrites told.now → IsGreatest hosts.now rewrites greatest) }
 {
     let all = all_servers(alloc, hosts)?;

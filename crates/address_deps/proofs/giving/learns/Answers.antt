@@ -1,13 +1,10 @@
-use Rattle.std.proofs.Common.{subst}
-use Rattle.std.proofs.lemmas.Result.{IfOk-weaker}
-use Rattle.address_deps.specs.Told.{IsToldOf}
+use Rattle.std.proofs.Common.{◌≡◌, ◌↔◌, true, sym, subst}
+use Rattle.std.specs.Prelude.{IfOk}
+use Rattle.address_deps.specs.Told.{Tells}
+use Rattle.address_deps.specs.declared.told.AddressTold.{AddressTold}
 use Rattle.address_deps.proofs.giving.learns.Goals as goal
 
-pub returns-in-Known : goal.returns-in-Known
-returns-in-Known c = λ rewrites name within is. subst (IsToldOf c.args.hosts.now rewrites name) c.in-Known.is is c.args.followed.now
-
-pub returns-in-ByGraph : goal.returns-in-ByGraph
-returns-in-ByGraph c =
-    IfOk-weaker c.learns_in.result _ _
-    (λ learns so rewrites name within is. so rewrites name within (subst (IsToldOf c.args.hosts.now rewrites name) c.in-ByGraph.is is))
-    c.learns_in.ensures
+pub returns-in-ByPaths : goal.returns-in-ByPaths
+returns-in-ByPaths c =
+    subst (λ (told : AddressTold). IfOk c.learns_by_paths.result (λ learns. (learns ≡ true) ↔ Tells c.args.followed.now told)) (sym c.in-ByPaths.is)
+    c.learns_by_paths.ensures

@@ -7,7 +7,7 @@ use Rattle.address_deps.proofs.Listing.{more_dependents, borrowed_names, no_depe
 use Rattle.address_deps.proofs.dependents.Dependents.of.Goals as goal
 
 pub loop-place-init : goal.loop-place-init
-loop-place-init c = no_dependents c.args.hosts.now c.args.told.now c.new.result (none_in_empty c.new.result c.new.ensures.empty)
+loop-place-init c = no_dependents c.args.told.now c.new.result (none_in_empty c.new.result c.new.ensures.empty)
 
 pub loop-place-preserved : goal.loop-place-preserved
 loop-place-preserved c =
@@ -15,7 +15,7 @@ loop-place-preserved c =
     let one = c.index-told-place.result in
     let old = c.loop-place.dependents.places in
     let new = c.put_all.new.self.places in
-    more_dependents c.args.hosts.now c.args.told.now place one old new
+    more_dependents c.args.told.now place one old new
     (slice_get-get_or c.args.told.now place one c.loop-place-test.true ∙ ap (λ (t : AddressTold). Some t) (sym c.index-told-place.is))
     c.loop-place.invariant
     (subst (λ (xs : List Labels). IsListedFor place xs old new) (ap borrowed_names c.as_slice.ensures.value ∙ c.in_ok-names.ensures) c.in_ok-put_all.ensures)
@@ -23,4 +23,4 @@ loop-place-preserved c =
 pub returns : goal.returns
 returns c =
     let all : c.loop-place.place ≡ length c.args.told.now = omega (arith, c.loop-place-test.false, c.loop-place.auto.place-end) in
-    subst (λ (bound : ℕ). AreDependents c.args.hosts.now c.args.told.now bound c.loop-place.dependents.places) all c.loop-place.invariant
+    subst (λ (bound : ℕ). AreDependents c.args.told.now bound c.loop-place.dependents.places) all c.loop-place.invariant
