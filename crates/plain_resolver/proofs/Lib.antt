@@ -1,4 +1,5 @@
 pub mod FromNone
 mod Learning
+mod PassingWalks
 pub mod Resolved
 mod ShownWalks

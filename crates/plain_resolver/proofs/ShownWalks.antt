@@ -119,6 +119,13 @@ pub all_listed : (before walks : List Walk) → fold (λ (all : List Walk) (walk
 all_listed before [] = sym (append-nil before)
 all_listed before (walk ∷ walks) = all_listed (before ++ walk ∷ []) walks ∙ append_assoc before (walk ∷ []) walks
 
+-- the list of the ends of the walks that were shown
+pub ends_listed : (before : List Leaf) (walks : List Walk)
+    → fold (λ (all : List Leaf) (walk : Walk). all ++ walk.leaf ∷ []) before walks ≡ before ++ map (λ (walk : Walk). walk.leaf) walks
+ends_listed before [] = sym (append-nil before)
+ends_listed before (walk ∷ walks) =
+    ends_listed (before ++ walk.leaf ∷ []) walks ∙ append_assoc before (walk.leaf ∷ []) (map (λ (w : Walk). w.leaf) walks)
+
 -- whether one of the walks shown has a property, or it was seen before
 pub any_seen : (gives : Walk → Bool) (seen : Bool) (walks : List Walk) → fold (λ (b : Bool) (walk : Walk). b || gives walk) seen walks ≡ (seen || list_any gives walks)
 any_seen gives true [] = refl

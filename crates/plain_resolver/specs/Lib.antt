@@ -4,3 +4,4 @@ pub mod Asked
 pub mod Begun
 pub mod Passed
 pub mod Shown
+pub mod Tested

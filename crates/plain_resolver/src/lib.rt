@@ -2,10 +2,12 @@
 //!
 //! The layer above may rest on this: `resolve` gives all walks of the definitions, in their order, or tells that there
 //! are more than the limit; `learnt` gives what the definitions' rounds give. Each builds the trees of the configuration's
-//! zones; `resolve_at` and `learnt_at` are given them, where several queries are asked.
+//! zones; `resolve_at` and `learnt_at` are given them, where several queries are asked. `count_walks` and `leaves_at` tell
+//! how many walks there are and how they end, and make none; `resolve_tested` gives those whose states pass tests.
 //!
-//! Costs: each walk of a query is followed by itself. Of a server's name that rests no walk is followed to learn its address:
-//! it is looked up at the top servers that hold a zone for it.
+//! Costs: each walk of a query is followed by itself. To learn the address of a server's name no walk is followed where it
+//! is seen at once that the name rests: the name is looked up at the top servers that hold a zone for it, of those that
+//! hold the same zones at one.
 #![tactic(auto)]
 
 mod begun;
@@ -13,9 +15,11 @@ mod fault;
 mod resolver;
 mod rounds;
 mod steps;
+mod tested;
 mod visitor;
 mod walks;
 
 pub use fault::{LearntFault, ResolveFault};
 pub use rounds::{MOST_WALKS_FOLLOWED, learnt, learnt_at};
-pub use walks::{resolve, resolve_at};
+pub use tested::{StateTest, resolve_tested};
+pub use walks::{count_walks, leaves_at, resolve, resolve_at};

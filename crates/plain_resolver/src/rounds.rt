@@ -6,6 +6,7 @@ ghost use Rattle.net_model.specs.Learnt.{LearnsBy, Learns, IsRound, AfterRounds}
 ghost use Rattle.net_model.specs.Step.{following};
 ghost use Rattle.plain_resolver.specs.Passed.{HasMoreWalks, HasTooMany, NoneHasTooMany, NoneInRounds, IsFirstToPass, IsFirstWithTooMany};
 ghost use Rattle.zone_lookup.specs.Resting.{Rests};
+ghost use Rattle.zone_lookup.specs.Tops.{StandsForTops};
 
 use crate::fault::{LearntFault, ResolveFault};
 use crate::resolver::Resolver;
@@ -54,7 +55,7 @@ pub fn learnt_at(
     ensures passed { (name : Labels) → IsErrOf result (LearntFault.WalksPassed name) → IsFirstWithTooMany hosts.now rewrites most from.now name }
 {
     let config = hosts.config();
-    let tops = TopServers::of(alloc, hosts)?;
+    let tops = TopServers::unlike(alloc, hosts)?;
     let mut followed = from.copy(alloc)?;
     for _round in 0..config.servers.items().len() {
         let learnt = learnt_while(alloc, hosts, &tops, rewrites, followed.items(), most)?;
@@ -75,7 +76,7 @@ fn learnt_while(
     followed: &[Name],
     most: u32,
 ) -> Result<List<Name>, LearntFault>
-    requires { tops.now ≡ hosts.now }
+    requires { StandsForTops hosts.now tops.now }
     ensures round { IfOk result (λ learnt. IsRound hosts.now rewrites followed.now learnt) }
     ensures few { OnOk result (NoneHasTooMany hosts.now rewrites most followed.now) }
     ensures passed { (name : Labels) → IsErrOf result (LearntFault.WalksPassed name) → IsFirstToPass hosts.now rewrites most followed.now name }
@@ -100,7 +101,7 @@ fn put_if(alloc: Global, names: &mut List<Name>, name: &Name, is_put: bool) -> R
 }
 
 /// Whether an address of the name can be learnt. It is `WalksPassed` with the name where it has more than `most` walks of
-/// type A or of type AAAA. No walk of a name is looked at that rests and has no more.
+/// type A or of type AAAA. No walk is looked at where it is seen at once that the name rests, and it has no more.
 fn learns(
     alloc: Global,
     hosts: &Hosts<'_>,
@@ -110,7 +111,7 @@ fn learns(
     name: &Name,
     most: u32,
 ) -> Result<bool, LearntFault>
-    requires { tops.now ≡ hosts.now }
+    requires { StandsForTops hosts.now tops.now }
     ensures learns { IfOk result (λ learns. (learns ≡ true) ↔ Learns (following hosts.now rewrites followed.now) name.now) }
     ensures few { OnOk result (HasTooMany hosts.now rewrites most followed.now name.now → ⊥) }
     ensures passed { (other : Labels) → IsErrOf result (LearntFault.WalksPassed other) → (name.now ≡ other) × HasTooMany hosts.now rewrites most followed.now name.now }
@@ -121,7 +122,8 @@ fn learns(
     }
 }
 
-/// Whether an address of a name can be learnt that rests and has no more than `most` walks of a type, one at each top server.
+/// Whether an address of a name can be learnt; or `None` where it isn't seen at once that the name rests, or where it has more
+/// than `most` walks of a type, which are one at each top server.
 fn learnt_within(
     alloc: Global,
     hosts: &Hosts<'_>,
@@ -129,11 +131,11 @@ fn learnt_within(
     name: &Name,
     most: u32,
 ) -> Result<Option<bool>, NoMemory>
-    requires { tops.now ≡ hosts.now }
+    requires { StandsForTops hosts.now tops.now }
     ensures rests { IfOk result (λ told. IfSome told (Rests hosts.now name.now)) }
     ensures few { IfOk result (λ told. IfSome told (λ learnt. (rewrites : ℕ) (followed : Items Labels) → HasTooMany hosts.now rewrites most followed name.now → ⊥)) }
 {
-    if tops.count() > most as usize {
+    if hosts.config().tops.items().len() > most as usize {
         return Ok(None);
     }
     learnt_at_tops(alloc, hosts, tops, name)

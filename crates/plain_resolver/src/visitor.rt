@@ -43,6 +43,36 @@ impl WalkVisitor for List<Walk> {
     }
 }
 
+/// The list of the ends of the walks that were shown. No walk is made for that.
+impl WalkVisitor for List<Leaf> {
+    ghost after = { λ leaves walk. leaves ++ walk.leaf ∷ [] };
+
+    fn visit(
+        &mut self,
+        alloc: Global,
+        _begun: &BegunWalk,
+        _hop: Option<Boxed<Hop>>,
+        leaf: Boxed<Leaf>,
+    ) -> Result<(), NoMemory> {
+        self.push(leaf.get().copy(alloc)?)
+    }
+}
+
+/// Nothing is kept of the walks that were shown, and none is made.
+impl WalkVisitor for () {
+    ghost after = { λ seen walk. seen };
+
+    fn visit(
+        &mut self,
+        _alloc: Global,
+        _begun: &BegunWalk,
+        _hop: Option<Boxed<Hop>>,
+        _leaf: Boxed<Leaf>,
+    ) -> Result<(), NoMemory> {
+        Ok(())
+    }
+}
+
 /// Whether a walk that was shown gives an address. No walk is made for that.
 #[derive(Debug, Drop)]
 pub(crate) struct AddressSeen {

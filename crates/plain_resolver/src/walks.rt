@@ -1,9 +1,10 @@
 //! All walks of a query.
 
-ghost use Rattle.std.specs.Prelude.{◌≡◌, ◌+◌, ◌<◌, map, length, IfOk, OnOk, IsErrOf};
+ghost use Rattle.std.specs.Prelude.{◌≡◌, ◌+◌, ◌<◌, List as Walks, map, length, IfOk, OnOk, IsErrOf};
 ghost use Rattle.std.specs.List.{fold};
 ghost use Rattle.net_model.specs.Step.{following};
 ghost use Rattle.net_model.specs.Walk.{AreWalks};
+ghost use Rattle.net_model.specs.declared.walk.Walk.{Walk as WalkValue};
 ghost use Rattle.net_model.proofs.AllWalks.{Settled};
 ghost use Rattle.plain_resolver.specs.Begun.{ended, led_along, states_left, walks_on};
 ghost use Rattle.plain_resolver.specs.Passed.{HasMoreWalks};
@@ -39,7 +40,7 @@ pub fn resolve(
 }
 
 /// All walks of the query in order, while these servers are followed, by the trees of the configuration's zones. It is
-/// `WalksPassed` where there are more than `most`; no more than `most` are made.
+/// `WalksPassed` where there are more than `most`. The walks are counted first: where there are more, none is made.
 pub fn resolve_at(
     alloc: Global,
     hosts: &Hosts<'_>,
@@ -53,10 +54,50 @@ pub fn resolve_at(
     ensures few { OnOk result (HasMoreWalks (following hosts.now rewrites followed.now) name.now t most → ⊥) }
     ensures passed { IsErrOf result ResolveFault.WalksPassed → HasMoreWalks (following hosts.now rewrites followed.now) name.now t most }
 {
+    count_walks(alloc, hosts, rewrites, followed, name, t, most)?;
     let resolver = Resolver::new(hosts, rewrites, followed, name, t);
     let mut walks = List::new(alloc);
     visit_walks(alloc, &resolver, most, &mut walks)?;
     Ok(walks)
+}
+
+/// The ends of all walks of the query in order, while these servers are followed. It is `WalksPassed` where there are more
+/// than `most`. No walk is made, and no more than `most` ends are.
+pub fn leaves_at(
+    alloc: Global,
+    hosts: &Hosts<'_>,
+    rewrites: u32,
+    followed: &[Name],
+    name: &Name,
+    t: RrType,
+    most: u32,
+) -> Result<List<Leaf>, ResolveFault>
+    ensures leaves { IfOk result (λ leaves. (walks : Walks WalkValue) × AreWalks (following hosts.now rewrites followed.now) name.now t walks × (leaves ≡ map (λ walk. walk.leaf) walks)) }
+    ensures few { OnOk result (HasMoreWalks (following hosts.now rewrites followed.now) name.now t most → ⊥) }
+    ensures passed { IsErrOf result ResolveFault.WalksPassed → HasMoreWalks (following hosts.now rewrites followed.now) name.now t most }
+{
+    let resolver = Resolver::new(hosts, rewrites, followed, name, t);
+    let mut leaves = List::new(alloc);
+    visit_walks(alloc, &resolver, most, &mut leaves)?;
+    Ok(leaves)
+}
+
+/// Counts the walks of the query while these servers are followed. It is `WalksPassed` where there are more than `most`;
+/// no walk is made.
+pub fn count_walks(
+    alloc: Global,
+    hosts: &Hosts<'_>,
+    rewrites: u32,
+    followed: &[Name],
+    name: &Name,
+    t: RrType,
+    most: u32,
+) -> Result<(), ResolveFault>
+    ensures few { OnOk result (HasMoreWalks (following hosts.now rewrites followed.now) name.now t most → ⊥) }
+    ensures passed { IsErrOf result ResolveFault.WalksPassed → HasMoreWalks (following hosts.now rewrites followed.now) name.now t most }
+{
+    let resolver = Resolver::new(hosts, rewrites, followed, name, t);
+    visit_walks(alloc, &resolver, most, &mut ())
 }
 
 /// Shows a visitor all walks of the query in order, or tells that there are more than `most`; no more than `most` are

@@ -75,13 +75,13 @@ put_rises item (first ∷ rest) h = by (name_cmp item first) refl (put_rises ite
     later,
   )
 
-order_has : (names : List Labels) (name : Labels) → Contains names name → Contains (in_order name_cmp names) name
+pub order_has : (names : List Labels) (name : Labels) → Contains names name → Contains (in_order name_cmp names) name
 order_has [] name has = has
 order_has (item ∷ names) name has =
     put_has item (in_order name_cmp names) name
     (elim (first_or_later item names name has) [ inl same ↦ inl same | inr later ↦ inr (order_has names name later) ])
 
-from_order : (names : List Labels) (name : Labels) → Contains (in_order name_cmp names) name → Contains names name
+pub from_order : (names : List Labels) (name : Labels) → Contains (in_order name_cmp names) name → Contains names name
 from_order [] name has = has
 from_order (item ∷ names) name has =
     elim (from_put item (in_order name_cmp names) name has) [
@@ -89,7 +89,7 @@ from_order (item ∷ names) name has =
       | inr later ↦ has_later item names name (from_order names name later)
     ]
 
-order_rises : (names : List Labels) → Rising (in_order name_cmp names)
+pub order_rises : (names : List Labels) → Rising (in_order name_cmp names)
 order_rises [] = tt
 order_rises (item ∷ names) = put_rises item (in_order name_cmp names) (order_rises names)
 

@@ -135,6 +135,16 @@ pub last_waits : (ground : Ground) (from : Labels) (passed : List Labels) (waiti
 last_waits ground from passed waiting left next is =
     subst (AreWalked ground from passed) (ap names_of is ∙ map-append (λ (one : LiveName). one.name) left (next ∷ []))
 
+-- the walk goes on with a name passed and the names one label below it waiting
+pub pass_next : (ground : Ground) → IsClosed ground → (from : Labels) (passed : List Labels) (left below : List LiveName) (next : Labels)
+    → AreWalked ground from passed (names_of left ++ next ∷ []) → AreChildren ground next (names_of below)
+    → AreWalked ground from (passed ++ next ∷ []) (names_of (left ++ reverse below))
+pass_next ground closed from passed left below next walked children =
+    let left_are : names_of (left ++ reverse below) ≡ names_of left ++ reverse (names_of below) =
+    map-append (λ (one : LiveName). one.name) left (reverse below)
+    ∙ ap (λ (l : List Labels). names_of left ++ l) (map_reverse (λ (one : LiveName). one.name) below) in
+    subst (AreWalked ground from (passed ++ next ∷ [])) (sym left_are) (walk_on ground closed from passed (names_of left) next walked (names_of below) children)
+
 -- the walk goes on with the row of a name passed and the names one label below it waiting
 pub walk_further : (ground : Ground) → IsClosed ground → (from : Labels) (rows : List ClassRow) (left below : List LiveName) (next : LiveName) (row : ClassRow)
     → row.name ≡ next.name → AreWalked ground from (tree_names rows) (names_of left ++ next.name ∷ []) → AreChildren ground next.name (names_of below)
@@ -142,12 +152,8 @@ pub walk_further : (ground : Ground) → IsClosed ground → (from : Labels) (ro
 walk_further ground closed from rows left below next row same walked children =
     let rows_are : tree_names (rows ++ row ∷ []) ≡ tree_names rows ++ next.name ∷ [] =
     map-append (λ (r : ClassRow). r.name) rows (row ∷ []) ∙ ap (λ (n : Labels). tree_names rows ++ n ∷ []) same in
-    let left_are : names_of (left ++ reverse below) ≡ names_of left ++ reverse (names_of below) =
-    map-append (λ (one : LiveName). one.name) left (reverse below)
-    ∙ ap (λ (l : List Labels). names_of left ++ l) (map_reverse (λ (one : LiveName). one.name) below) in
     subst (λ (l : List Labels). AreWalked ground from l (names_of (left ++ reverse below))) (sym rows_are)
-    (subst (AreWalked ground from (tree_names rows ++ next.name ∷ [])) (sym left_are)
-    (walk_on ground closed from (tree_names rows) (names_of left) next.name walked (names_of below) children))
+    (pass_next ground closed from (tree_names rows) left below next.name walked children)
 
 -- what holds of a list's items holds of those of the list turned round
 pub all_reversed : {X : Type 0} (P : X → Type 0) (xs : List X) → All P xs → All P (reverse xs)

@@ -8,9 +8,9 @@
 //! names at or below an item is told of all at or below its children, which keep the mark that says so.
 //!
 //! Costs: a name is walked label by label from the root. A live name keeps its live set, so that the names below it are
-//! one step away; the whole tree takes one step for each of its names, and the names that wait are those beside the way
-//! down. A representative tries labels in order until one is free, so at most one more than there are named names one
-//! label below.
+//! one step away; the whole tree takes two steps for each of its names, since they are counted before a row is made, and
+//! the names that wait are those beside the way down. A representative tries labels in order until one is free, so at
+//! most one more than there are named names one label below.
 #![tactic(auto)]
 
 mod below;

@@ -37,6 +37,8 @@ pub fn class_tree(
     ensures none_more { OnOk result (HasMoreThan (IsInPart graph.now from.now) most → ⊥) }
     ensures too_many { IsErrOf result TreeFault.TooMany → HasMoreThan (IsInPart graph.now from.now) most }
 {
+    // Where there are too many, no row is made.
+    count_names(alloc, graph, from, most)?;
     laws::graph_is_closed(graph);
     let first = LiveName::of(alloc, graph, from)?;
     if first.live.is_empty() {
@@ -54,6 +56,32 @@ pub fn class_tree(
         rows.push(row_of(next, below))?;
     }
     Ok(List::from_vec(rows))
+}
+
+/// Counts the names of the part of the class tree at or below a name. It is `TooMany` where there are more than `most`. No
+/// name is kept that is counted.
+fn count_names(alloc: Global, graph: &LabelGraph, from: &Name, most: u32) -> Result<(), TreeFault>
+    ensures { IsErrOf result TreeFault.TooMany → HasMoreThan (IsInPart graph.now from.now) most }
+{
+    laws::graph_is_closed(graph);
+    let first = LiveName::of(alloc, graph, from)?;
+    if first.live.is_empty() {
+        return Ok(());
+    }
+    let mut left = most;
+    let mut waiting = Vec::new(alloc);
+    waiting.push(first)?;
+    while let Some(next) = waiting.pop() {
+        if left == 0 {
+            return Err(TreeFault::TooMany);
+        }
+        left -= 1;
+        let below = next.children(alloc, graph)?;
+        // What holds a name is dropped by a call: dropped where a block ends, it is taken apart there by the kinds of names.
+        drop(next);
+        put_last_first(below, &mut waiting)?;
+    }
+    Ok(())
 }
 
 /// The row of a name and of the class below it. The name's live set is let go.

@@ -1,8 +1,8 @@
+mod CountedQueries
 pub mod EntrySteps
 pub mod FewWalks
 pub mod HopsInside
 pub mod InOrder
-pub mod ListedWalks
 pub mod NamedQueries
 pub mod OneAnswer
 pub mod ReportRead
@@ -12,4 +12,5 @@ pub mod Searched
 pub mod Shallow
 pub mod TwoWalks
 pub mod WalkShows
+mod WalkSteps
 mod Worked

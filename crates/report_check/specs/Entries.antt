@@ -11,6 +11,7 @@ use Rattle.net_model.specs.declared.walk.Walk.{Walk}
 use Rattle.net_model.specs.Learnt.{IsLeast, IsGreatest}
 use Rattle.net_model.specs.Shown.{MayShow, WalksShow, with_sets}
 use Rattle.net_model.specs.Step.{Setting}
+use Rattle.net_model.specs.Walk.{IsWalk}
 use Rattle.net_model.specs.declared.deps.Deps.{Deps}
 use Rattle.graph_form.specs.Report.{repeats}
 use Rattle.graph_form.specs.declared.report.ReportEntry.{ReportEntry}
@@ -44,31 +45,34 @@ pub record IsShownBy (setting : Setting) (query : Labels) (rtype : RrType) (walk
   pub show : WalksShow (with_sets setting) walks fault
   pub is : value ≡ entry_value (entry_with query rtype (first_repeats walks) walks fault)
 
--- the entry is shown by one of all walks, whose value is this
-pub record ByOne (setting : Setting) (query : Labels) (rtype : RrType) (all : List Walk) (steps value : Data) : Type 0 where
+-- the entry is shown by a walk of the query, whose value is this
+pub record ByOne (setting : Setting) (query : Labels) (rtype : RrType) (steps value : Data) : Type 0 where
   pub walk : Walk
-  pub among : Contains all walk
+  pub is_walk : IsWalk setting query rtype walk
   pub steps_are : steps ≡ walk_value walk
   pub shown : IsShownBy setting query rtype (walk ∷ []) value
 
--- the entry is shown by the given walk and one of all walks, whose value is this
-pub record ByOther (setting : Setting) (query : Labels) (rtype : RrType) (one : Walk) (all : List Walk) (steps value : Data) : Type 0 where
+-- the entry is shown by the given walk and one of others, whose value is this
+pub record ByOther (setting : Setting) (query : Labels) (rtype : RrType) (one : Walk) (others : List Walk) (steps value : Data) : Type 0 where
   pub walk : Walk
-  pub among : Contains all walk
+  pub among : Contains others walk
   pub steps_are : steps ≡ walk_value walk
   pub shown : IsShownBy setting query rtype (one ∷ walk ∷ []) value
 
--- the entry is shown by two of all walks, which have these values
-pub record ByTwo (setting : Setting) (query : Labels) (rtype : RrType) (all : List Walk) (steps others value : Data) : Type 0 where
+-- the entry is shown by two walks of the query, which have these values
+pub record ByTwo (setting : Setting) (query : Labels) (rtype : RrType) (steps others value : Data) : Type 0 where
   pub walk : Walk
-  pub among : Contains all walk
+  pub is_walk : IsWalk setting query rtype walk
   pub steps_are : steps ≡ walk_value walk
-  pub other : ByOther setting query rtype walk all others value
+  pub other : Walk
+  pub is_other : IsWalk setting query rtype other
+  pub others_are : others ≡ walk_value other
+  pub shown : IsShownBy setting query rtype (walk ∷ other ∷ []) value
 
--- the entry is shown by some of all walks
-pub record ByWalks (setting : Setting) (query : Labels) (rtype : RrType) (all : List Walk) (value : Data) : Type 0 where
+-- the entry is shown by walks of the query
+pub record ByWalks (setting : Setting) (query : Labels) (rtype : RrType) (value : Data) : Type 0 where
   pub walks : List Walk
-  pub among : (walk : Walk) → Contains walks walk → Contains all walk
+  pub are_walks : AllByRecursion (IsWalk setting query rtype) walks
   pub shown : IsShownBy setting query rtype walks value
 
 -- the fault is told of the representatives of classes alone

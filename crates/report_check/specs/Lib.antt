@@ -6,6 +6,8 @@ pub use Rattle.report_json.specs.Report as ReportTexts
 pub mod ReportIn
 pub mod Right
 pub mod Checked
+pub mod Counted
 pub mod Entries
+pub mod Steps
 pub mod WalkFaults
 pub mod Laws

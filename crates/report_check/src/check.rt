@@ -70,7 +70,11 @@ fn check_stated(
         → IsChecked hosts.now octets result }
 {
     match learnt_sets(alloc, hosts, rewrites) {
-        Ok(sets) => check_entries(alloc, &mut Checker::new(hosts, rewrites, sets), entries),
+        Ok(sets) => check_entries(
+            alloc,
+            &mut Checker::new(alloc, hosts, rewrites, sets),
+            entries,
+        ),
         Err(LearntFault::WalksPassed(_)) => Err(CheckFault::Walks { entry: 0 }),
         Err(LearntFault::NoMemory) => Err(CheckFault::NoMemory),
     }

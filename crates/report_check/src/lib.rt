@@ -7,14 +7,15 @@
 //! entry of a report that `check` makes is right (`laws::a_report_checks`), so that the answer to its text, which
 //! `report_text` gives in UTF-8, is yes, or too many walks, or `NoMemory`.
 //!
-//! Nothing in an entry is taken apart but its query and its type. The walks of these are followed, the faults that a
-//! walk shows are found, and the entry that would be right is written and compared with the one in hand.
+//! Nothing in an entry is taken apart but its query, its type, and the server and the name of each step of its walks. The
+//! walks that come to these are followed, the faults that a walk shows are found, and the entry that would be right is
+//! written and compared with the one in hand.
 //!
 //! Costs: the trees of all zones are built once, and the two sets of learnt addresses are found once, by as many rounds
-//! as there are servers at most. Of each entry all walks of its query with its type are followed, at most 10,000, and
-//! each is written once, or once more for each walk that may be its first where there are two. The graph of base names
-//! is made once, and only where an entry has two walks, or is right but for the question whether its query represents a
-//! class.
+//! as there are servers at most. The walks of each query with its type are counted once, up to 10,000, and none is made
+//! for that; of a counted query its name and the type are kept. Of each entry the walks are followed that it has, and each
+//! is written once, or once more for each walk that may be its first where there are two. The graph of base names is made
+//! once, and only where an entry has two walks, or is right but for the question whether its query represents a class.
 #![tactic(auto)]
 
 mod answer;
@@ -22,6 +23,7 @@ mod asked;
 mod check;
 mod checker;
 mod classes;
+mod counted;
 mod entries;
 mod entry;
 mod faults;
@@ -29,6 +31,7 @@ pub mod laws;
 mod learning;
 mod members;
 mod right;
+mod steps;
 mod texts;
 
 pub use answer::{CheckFault, Checked};

@@ -2,7 +2,7 @@
 
 ghost use Rattle.std.specs.Prelude.{◌≡◌, ◌↔◌, ◌≤◌, ◌∷◌, [], true, Contains, IfOk, IsErrOf, OnOk};
 ghost use Rattle.net_model.specs.Shown.{MayShow, ShowsAnswers, WalksShow, with_sets};
-ghost use Rattle.net_model.specs.Walk.{AreWalks, IsWalk};
+ghost use Rattle.net_model.specs.Walk.{IsWalk};
 ghost use Rattle.net_model.specs.declared.fault.Fault.{Fault as FaultValue};
 ghost use Rattle.report_json.specs.Plain.{IsWritten};
 ghost use Rattle.report_json.specs.Report.{entry_value};
@@ -41,21 +41,19 @@ pub(crate) fn is_right(
     let Some(asked) = asked_in(alloc, value)? else {
         return Ok(false);
     };
-    let walks = checker.walks_of(alloc, &asked)?;
-    Ok(is_shown(alloc, checker, &asked, walks.items(), value)?)
+    checker.count_walks(alloc, &asked)?;
+    Ok(is_shown(alloc, checker, &asked, value)?)
 }
 
-/// Whether the value is that of an entry of the query with one of all its walks, or with two, that show the entry's fault.
+/// Whether the value is that of an entry of the query with one of its walks, or with two, that show the entry's fault.
 fn is_shown(
     alloc: Global,
     checker: &mut Checker<'_, '_>,
     asked: &EntryQuery,
-    walks: &[Walk],
     value: &Value,
 ) -> Result<bool, NoMemory>
     requires nests { depth (view value.now) ≤ max_depth }
-    requires walks { AreWalks checker.old asked.now.query asked.now.rtype walks.now }
-    ensures shown { IfOk result (λ shown. (shown ≡ true) ↔ ByWalks checker.old asked.now.query asked.now.rtype walks.now (view value.now)) }
+    ensures shown { IfOk result (λ shown. (shown ≡ true) ↔ ByWalks checker.old asked.now.query asked.now.rtype (view value.now)) }
     ensures kept { checker.new ≡ checker.old }
 {
     let Some(steps) = list_at(value, "walks") else {
@@ -63,8 +61,8 @@ fn is_shown(
     };
     let text = text_of(alloc, value)?;
     match steps {
-        [one] => by_one(alloc, checker, asked, walks, one, text.as_slice()),
-        [one, other] => by_two(alloc, checker, asked, walks, one, other, text.as_slice()),
+        [one] => by_one(alloc, checker, asked, one, text.as_slice()),
+        [one, other] => by_two(alloc, checker, asked, one, other, text.as_slice()),
         _ => Ok(false),
     }
 }
@@ -74,18 +72,17 @@ fn by_one(
     alloc: Global,
     checker: &mut Checker<'_, '_>,
     asked: &EntryQuery,
-    walks: &[Walk],
     steps: &Value,
     text: &[u8],
 ) -> Result<bool, NoMemory>
-    requires nests { depth (view steps.now) ≤ max_depth }
-    requires walks { AreWalks checker.old asked.now.query asked.now.rtype walks.now }
+    requires { depth (view steps.now) ≤ max_depth }
     ensures shown { IfOk result (λ shown. (value : Data) → IsWritten value text.now
-        → (shown ≡ true) ↔ ByOne checker.old asked.now.query asked.now.rtype walks.now (view steps.now) value) }
+        → (shown ≡ true) ↔ ByOne checker.old asked.now.query asked.now.rtype (view steps.now) value) }
     ensures kept { checker.new ≡ checker.old }
 {
+    let walks = checker.walks_with(alloc, asked, steps)?;
     let steps = text_of(alloc, steps)?;
-    for walk in walks {
+    for walk in walks.items() {
         if is_walk_text(alloc, walk, steps.as_slice())?
             && shows_alone(alloc, checker, asked, walk, text)?
         {
@@ -174,23 +171,31 @@ fn by_two(
     alloc: Global,
     checker: &mut Checker<'_, '_>,
     asked: &EntryQuery,
-    walks: &[Walk],
     one: &Value,
     other: &Value,
     text: &[u8],
 ) -> Result<bool, NoMemory>
     requires one { depth (view one.now) ≤ max_depth }
     requires other { depth (view other.now) ≤ max_depth }
-    requires walks { AreWalks checker.old asked.now.query asked.now.rtype walks.now }
     ensures shown { IfOk result (λ shown. (value : Data) → IsWritten value text.now
-        → (shown ≡ true) ↔ ByTwo checker.old asked.now.query asked.now.rtype walks.now (view one.now) (view other.now) value) }
+        → (shown ≡ true) ↔ ByTwo checker.old asked.now.query asked.now.rtype (view one.now) (view other.now) value) }
     ensures kept { checker.new ≡ checker.old }
 {
+    let walks = checker.walks_with(alloc, asked, one)?;
+    let others = checker.walks_with(alloc, asked, other)?;
     let one = text_of(alloc, one)?;
     let other = text_of(alloc, other)?;
-    for walk in walks {
+    for walk in walks.items() {
         if is_walk_text(alloc, walk, one.as_slice())?
-            && by_other(alloc, checker, asked, walk, walks, other.as_slice(), text)?
+            && by_other(
+                alloc,
+                checker,
+                asked,
+                walk,
+                others.items(),
+                other.as_slice(),
+                text,
+            )?
         {
             return Ok(true);
         }

@@ -1,6 +1,7 @@
-use Rattle.std.proofs.Common.{◌≤◌, length, ap, inl, inr, arith}
+use Rattle.std.proofs.Common.{◌≤◌, List, length, ap, inl, inr, arith}
 use Rattle.std.proofs.lemmas.Option.{IfSome_then}
 use Rattle.std.proofs.lemmas.Result.{IfOk-weaker}
+use Rattle.dns_data.specs.Name.{Labels}
 use Rattle.dns_data.specs.declared.rr_type.RrType.TheVariants as types
 use Rattle.net_model.specs.declared.config.Config.{Config}
 use Rattle.zone_lookup.proofs.NamesAtRest.{few_walks}
@@ -10,7 +11,8 @@ pub returns-clause-few : goal.returns-clause-few
 returns-clause-few c =
     let config = c.args.hosts.now in
     let name = c.args.name.now in
-    let fits : length config.tops ≤ c.args.most = omega (arith, c.if-count-most.false, c.count.ensures, ap (λ (x : Config). length x.tops) c.requires) in
+    let fits : length config.tops ≤ c.args.most =
+    omega (arith, c.if-items-most.false, ap (λ (tops : List Labels). length tops) c.items.ensures, ap (λ (x : Config). length x.tops) c.config.ensures) in
     IfOk-weaker c.learnt_at_tops.result _ _
     (λ told so. IfSome_then told so
     (λ learnt rests rewrites followed many. elim many [

@@ -12,6 +12,6 @@ use Rattle.report_check.proofs.right.by_one.Given as goal
 abbrev pub invariant-loop-walk : goal.invariant-loop-walk
 invariant-loop-walk l = record {
   kept : l.checker ≡ l.fn.checker;
-  none : (value : Data) → IsWritten value l.text → (walk : Walk) → Contains (take l.walk-index l.walks) walk
+  none : (value : Data) → IsWritten value l.text → (walk : Walk) → Contains (take l.walk-index l.walk-items) walk
       → (view l.fn.steps ≡ walk_value walk) × IsShownBy l.fn.checker l.asked.query l.asked.rtype (walk ∷ []) value → ⊥;
 }

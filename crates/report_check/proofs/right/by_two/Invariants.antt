@@ -12,6 +12,6 @@ use Rattle.report_check.proofs.right.by_two.Given as goal
 abbrev pub invariant-loop-walk : goal.invariant-loop-walk
 invariant-loop-walk l = record {
   kept : l.checker ≡ l.fn.checker;
-  none : (value : Data) → IsWritten value l.text → (walk : Walk) → Contains (take l.walk-index l.walks) walk
-      → (view l.fn.one ≡ walk_value walk) × ByOther l.fn.checker l.asked.query l.asked.rtype walk l.walks (view l.fn.other) value → ⊥;
+  none : (value : Data) → IsWritten value l.text → (walk : Walk) → Contains (take l.walk-index l.walk-items) walk
+      → (view l.fn.one ≡ walk_value walk) × ByOther l.fn.checker l.asked.query l.asked.rtype walk l.others-inside.items.items (view l.fn.other) value → ⊥;
 }

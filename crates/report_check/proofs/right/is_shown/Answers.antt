@@ -6,7 +6,6 @@ use Rattle.dns_data.specs.declared.memory.NoMemory.{NoMemory}
 use Rattle.dns_data.specs.declared.rr_type.RrType.{RrType}
 use Rattle.meta_read.specs.Members.{list_at}
 use Rattle.net_model.specs.Step.{Setting}
-use Rattle.net_model.specs.declared.walk.Walk.{Walk}
 use Rattle.report_json.specs.Plain.{IsWritten}
 use Rattle.serde_json.specs.Data.{Data, depth}
 use Rattle.serde_json.specs.Read.{max_depth}
@@ -20,8 +19,8 @@ use Rattle.report_check.proofs.Shallow.{list_shallow}
 use Rattle.report_check.proofs.right.is_shown.Goals as goal
 use Rattle.report_check.proofs.right.is_shown.Goals.{in_default-steps, in_default-steps-2}
 
-pub by_one-requires-clause-nests : goal.by_one-requires-clause-nests
-by_one-requires-clause-nests c =
+pub by_one-requires : goal.by_one-requires
+by_one-requires c =
     at_item view (λ (one : Data). depth one ≤ max_depth) c.in-Some.steps.now 0 c.one-item.result
     (list_shallow (codes "walks") (view c.args.value.now) (map view c.in-Some.steps.now) max_depth (sym c.in-Some.ensures) c.requires.nests)
     (omega (arith, c.in-len1.len_at_least)) c.one-item.is
@@ -31,7 +30,6 @@ returns-in-len1-clause-shown c =
     let setting = c.args.checker.now in
     let query = c.args.asked.now.query in
     let rtype = c.args.asked.now.rtype in
-    let walks = c.args.walks.now in
     let value = view c.args.value.now in
     let one = view c.one-item.result in
     let at : list_at (codes "walks") value ≡ Some (one ∷ []) =
@@ -40,8 +38,8 @@ returns-in-len1-clause-shown c =
     let written = subst (IsWritten value) (sym c.as_slice.ensures.value) c.in_ok-text.ensures in
     IfOk-weaker c.by_one.result _ _
     (λ shown told. (
-      (λ e. one_by_walks setting query rtype walks value one ((told value written).0 e)),
-      (λ by. (told value written).1 (walks_by_one setting query rtype walks value one at by)),
+      (λ e. one_by_walks setting query rtype value one ((told value written).0 e)),
+      (λ by. (told value written).1 (walks_by_one setting query rtype value one at by)),
     ))
     c.by_one.ensures.shown
 
@@ -62,7 +60,6 @@ returns-in-len2-clause-shown c =
     let setting = c.args.checker.now in
     let query = c.args.asked.now.query in
     let rtype = c.args.asked.now.rtype in
-    let walks = c.args.walks.now in
     let value = view c.args.value.now in
     let one = view c.one-item-then-steps-lt3.result in
     let other = view c.other-item.result in
@@ -73,19 +70,19 @@ returns-in-len2-clause-shown c =
     let written = subst (IsWritten value) (sym c.as_slice-in-len2.ensures.value) c.in_ok-text.ensures in
     IfOk-weaker c.by_two.result _ _
     (λ shown told. (
-      (λ e. two_by_walks setting query rtype walks value one other ((told value written).0 e)),
-      (λ by. (told value written).1 (walks_by_two setting query rtype walks value one other at by)),
+      (λ e. two_by_walks setting query rtype value one other ((told value written).0 e)),
+      (λ by. (told value written).1 (walks_by_two setting query rtype value one other at by)),
     ))
     c.by_two.ensures.shown
 
 -- another number of walks than one or two shows nothing
-unshown : (setting : Setting) (query : Labels) (rtype : RrType) (walks : List Walk) (value : Data) (steps : List Value)
+unshown : (setting : Setting) (query : Labels) (rtype : RrType) (value : Data) (steps : List Value)
     → list_at (codes "walks") value ≡ Some (map view steps) → (length steps ≡ 1 → ⊥) → (length steps ≡ 2 → ⊥)
-    → (answer : Result Bool NoMemory) → answer ≡ Ok false → IfOk answer (λ shown. (shown ≡ true) ↔ ByWalks setting query rtype walks value)
-unshown setting query rtype walks value steps at not_one not_two answer is =
-    subst (λ (said : Result Bool NoMemory). IfOk said (λ shown. (shown ≡ true) ↔ ByWalks setting query rtype walks value)) (sym is) (
+    → (answer : Result Bool NoMemory) → answer ≡ Ok false → IfOk answer (λ shown. (shown ≡ true) ↔ ByWalks setting query rtype value)
+unshown setting query rtype value steps at not_one not_two answer is =
+    subst (λ (said : Result Bool NoMemory). IfOk said (λ shown. (shown ≡ true) ↔ ByWalks setting query rtype value)) (sym is) (
       (λ e. absurd (true≢false (sym e))),
-      (λ by. absurd (no_other_steps setting query rtype walks value (map view steps) at
+      (λ by. absurd (no_other_steps setting query rtype value (map view steps) at
           (λ one e. not_one (sym (length-map steps view) ∙ ap length e)) (λ one other e. not_two (sym (length-map steps view) ∙ ap length e)) by)),
     )
 
@@ -95,10 +92,10 @@ returns-clause-shown c =
     elim c.if-steps-lt1.branch [
       | in_default-steps w ↦ (
           let few = w.in_default-steps.len_below in
-          unshown c.args.checker.now c.args.asked.now.query c.args.asked.now.rtype c.args.walks.now (view c.args.value.now) steps (sym c.in-Some.ensures)
+          unshown c.args.checker.now c.args.asked.now.query c.args.asked.now.rtype (view c.args.value.now) steps (sym c.in-Some.ensures)
           (λ e. absurd (omega (arith, e, few))) (λ e. absurd (omega (arith, e, few))) c.if-steps-lt1.result w.result-is)
       | in_default-steps-2 w ↦ (
           let many = w.in_default-steps.len_at_least in
-          unshown c.args.checker.now c.args.asked.now.query c.args.asked.now.rtype c.args.walks.now (view c.args.value.now) steps (sym c.in-Some.ensures)
+          unshown c.args.checker.now c.args.asked.now.query c.args.asked.now.rtype (view c.args.value.now) steps (sym c.in-Some.ensures)
           (λ e. absurd (omega (arith, e, many))) (λ e. absurd (omega (arith, e, many))) c.if-steps-lt1.result w.result-is)
     ]
