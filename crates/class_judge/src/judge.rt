@@ -1,6 +1,6 @@
 //! The judge of the class tree of a subject: a work whose items are the names of the tree at or below the subject's name.
 
-ghost use Rattle.std.specs.Prelude.{◌≡◌, ◌<◌, ◌^◌, length, IfOk, IfErr, OnOk};
+ghost use Rattle.std.specs.Prelude.{◌≡◌, ◌<◌, ◌^◌, length, IfOk, IfErr, IfSome, OnOk};
 ghost use Rattle.class_judge.specs.Judge.{IsWholeRefusal};
 ghost use Rattle.dns_data.proofs.Names.{same_names};
 ghost use Rattle.dns_data.specs.Name.{name_cmp};
@@ -62,7 +62,10 @@ impl<'a, N: Naming + Send> Work for Judge<'a, N> {
         share: &mut JudgeShare,
     ) -> Result<Judged<TreeName<SubjectGround<OfNaming<N>>>, FiledVerdict>, NoMemory> {
         share.raise();
-        self.names.judge(item)
+        let mut near = share.hint();
+        let judged = self.names.judge(&mut near, item);
+        share.leave(near);
+        judged
     }
 
     fn copy_item(
@@ -70,6 +73,16 @@ impl<'a, N: Naming + Send> Work for Judge<'a, N> {
         item: &TreeName<SubjectGround<OfNaming<N>>>,
     ) -> Result<TreeName<SubjectGround<OfNaming<N>>>, NoMemory> {
         self.names.copy_item(item)
+    }
+
+    fn may_be_shared(verdict: &FiledVerdict) -> bool {
+        verdict.may_be_shared()
+    }
+
+    fn shared(verdict: &FiledVerdict, other: &FiledVerdict) -> Option<FiledVerdict>
+        ensures { IfSome result (λ same. same ≡ verdict.now) }
+    {
+        verdict.shared(other)
     }
 
     ghost parents_apart = { items.parents_apart N.subject.ground N.subject.below N.children_of N.values.children };

@@ -1,6 +1,6 @@
 //! The judge of a scope: a work whose items are the names of the class tree at or below a name.
 
-ghost use Rattle.std.specs.Prelude.{◌≡◌, ◌<◌, ◌^◌, length, IfOk, IfErr, OnOk};
+ghost use Rattle.std.specs.Prelude.{◌≡◌, ◌<◌, ◌^◌, length, IfOk, IfErr, IfSome, OnOk};
 ghost use Rattle.dns_data.proofs.Names.{same_names};
 ghost use Rattle.dns_data.specs.Name.{name_cmp};
 ghost use Rattle.graph_form.specs.Report.{IsReport};
@@ -67,6 +67,16 @@ impl<'a, N: Naming + Send> Work for ScopeJudge<'a, N> {
         item: &TreeName<SubjectGround<OfNaming<N>>>,
     ) -> Result<TreeName<SubjectGround<OfNaming<N>>>, NoMemory> {
         self.judge.copy_item(item)
+    }
+
+    fn may_be_shared(verdict: &FiledVerdict) -> bool {
+        verdict.may_be_shared()
+    }
+
+    fn shared(verdict: &FiledVerdict, other: &FiledVerdict) -> Option<FiledVerdict>
+        ensures { IfSome result (λ same. same ≡ verdict.now) }
+    {
+        verdict.shared(other)
     }
 
     ghost parents_apart = { items.parents_apart N.subject.ground N.subject.below N.children_of N.values.children };

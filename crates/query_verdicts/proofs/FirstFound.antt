@@ -29,6 +29,10 @@ record IsPutAmong (x : Seen) (first more : List Seen) : Type 0 where
 covers_itself : (xs : List Seen) (x : Seen) → Contains xs x → IsCovered xs x
 covers_itself xs x has = record { by = x; has = has; fault_is = refl; not_later = omega arith }
 
+-- faults that rise are the first of themselves
+pub first_themselves : (xs : List Seen) → AllPairs Rises xs → AreFirstTypes xs xs
+first_themselves xs rises = record { ordered = rises; from = λ seen has. has; covers = covers_itself xs }
+
 covered_behind : (y : Seen) (xs : List Seen) (x : Seen) → IsCovered xs x → IsCovered (y ∷ xs) x
 covered_behind y xs x covered =
     record { by = covered.by; has = has_later y xs covered.by covered.has; fault_is = covered.fault_is; not_later = covered.not_later }

@@ -22,7 +22,7 @@ use Rattle.query_verdicts.specs.Passed.{NonePasses}
 use Rattle.query_verdicts.specs.Rows.{AreRows, found_at, found_below, found_in, found_of}
 use Rattle.query_verdicts.specs.TreeVerdicts.{TreeRow}
 use Rattle.query_verdicts.specs.Verdict.{PassesStates, AreFaultsOf, IsClassVerdict, IsBelowVerdict, IsNameVerdict}
-use Rattle.query_verdicts.specs.declared.report.ClassFault.{ClassFault}
+use Rattle.query_verdicts.specs.declared.first_classes.ClassFault.{ClassFault}
 use Rattle.query_verdicts.specs.declared.verdict.ClassVerdict.{ClassVerdict}
 use Rattle.query_verdicts.specs.declared.verdict.ClassVerdict.TheVariants.{Faults, StatesPassed}
 use Rattle.query_verdicts.proofs.FirstWalksShow.{shows_with}

@@ -14,6 +14,8 @@ pub mod FollowedAlike
 pub mod FoundNothing
 pub mod FoundRight
 pub mod JudgedItems
+pub mod KeptFirsts
+pub mod KnownAlike
 pub mod NameVerdicts
 pub mod OnePassed
 pub mod OneVerdict

@@ -17,7 +17,7 @@ use Rattle.net_model.specs.Shown.{Shows, ShowsIn, with_sets}
 use Rattle.net_model.specs.Step.{Setting, following}
 use Rattle.net_model.proofs.TrialOrder.{one_representative}
 use Rattle.query_verdicts.specs.Entries.{AreEntriesOf, IsEntryOf, IsRightFound, IsWalked, PutsEntry}
-use Rattle.query_verdicts.specs.declared.report.ClassFault.{ClassFault}
+use Rattle.query_verdicts.specs.declared.first_classes.ClassFault.{ClassFault}
 use Rattle.query_verdicts.specs.declared.report.Walked.{Walked}
 use Rattle.query_verdicts.proofs.FirstWalksShow.{AreFirstWalks, shows_with, graph_shows, first_walks}
 

@@ -24,7 +24,7 @@ use Rattle.query_verdicts.specs.Carried.{SomeClassShows}
 use Rattle.query_verdicts.specs.Entries.{AreEntries, AreEntriesOf, IsEntryOf, IsFirstClass, is_before}
 use Rattle.query_verdicts.specs.Subjects.{IsCovering}
 use Rattle.query_verdicts.specs.Rows.{class_rank, found_fault}
-use Rattle.query_verdicts.specs.declared.report.ClassFault.{ClassFault}
+use Rattle.query_verdicts.specs.declared.first_classes.ClassFault.{ClassFault}
 use Rattle.query_verdicts.proofs.Carrying.{shown_by_classes}
 use Rattle.query_verdicts.proofs.Rising.{none_twice, one_item, rises}
 

@@ -5,7 +5,7 @@ use Rattle.std.specs.Ordering.{is_lt}
 use Rattle.std.specs.declared.cmp.Ordering.TheVariants.{Less}
 use Rattle.query_verdicts.specs.Carried.{SomeClassShows}
 use Rattle.query_verdicts.specs.declared.report.EntryParts.{EntryParts}
-use Rattle.query_verdicts.specs.declared.report.ClassFault.{ClassFault}
+use Rattle.query_verdicts.specs.declared.first_classes.ClassFault.{ClassFault}
 use Rattle.query_verdicts.specs.declared.report.Walked.{Walked}
 use Rattle.query_verdicts.specs.Queries.{IsLeastGraph}
 use Rattle.dns_data.specs.Name.{Labels}

@@ -1,5 +1,6 @@
 -- What is told of a name by the verdict that is filed for it: for the contracts of inner calls alone.
 use Rattle.std.specs.Prelude.{◌≡◌, [], Some, None, IfSome}
+use Rattle.std.specs.Arc.{arc_value}
 use Rattle.query_verdicts.specs.declared.verdict.FiledVerdict.TheInside.{Inside}
 use Rattle.query_verdicts.specs.declared.verdict.FiledForm.{FiledForm}
 use Rattle.query_verdicts.specs.declared.verdict.FiledForm.TheVariants.{Nothing, NothingAlone, Whole}
@@ -11,7 +12,7 @@ use Rattle.query_verdicts.specs.declared.verdict.NameVerdict.{NameVerdict}
 abbrev pub verdict_told : FiledForm → NameVerdict ClassVerdict
 verdict_told Nothing = record { exact = Faults []; below = Some (Faults []) }
 verdict_told NothingAlone = record { exact = Faults []; below = None }
-verdict_told (Whole verdict) = verdict.value
+verdict_told (Whole verdict) = arc_value verdict
 
 -- the verdict of a name, as contracts see what is filed for it
 abbrev pub verdict_filed : Inside → NameVerdict ClassVerdict

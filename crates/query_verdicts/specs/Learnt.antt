@@ -1,16 +1,22 @@
 -- What is learnt of a configuration before its queries are judged: for the contracts of inner calls alone.
-use Rattle.std.specs.Prelude.{◌≡◌, ℕ, true, List, Result, Ok, Err}
-use Rattle.dns_data.specs.Name.{Labels}
-use Rattle.address_deps.specs.Told.{AreTold}
+use Rattle.std.specs.Prelude.{◌≡◌, ◌++◌, ℕ, Bool, true, Contains, IfSome, List, Result, Ok, Err}
+use Rattle.dns_data.specs.Name.{Labels, wire_octets}
+use Rattle.address_deps.specs.Told.{AreTold, IsToldOf}
 use Rattle.address_deps.specs.declared.told.AddressTold.{AddressTold}
+use Rattle.address_deps.specs.declared.told.AddressTold.TheVariants.{Known}
+use Rattle.label_graph.specs.Pairs.{AreSame}
 use Rattle.net_model.specs.declared.config.Config.{Config}
 use Rattle.net_model.specs.declared.place.Cut.{Cut}
 use Rattle.net_model.specs.Nearest.{is_configured}
+use Rattle.net_model.specs.Reading.{ground_of}
 use Rattle.net_model.specs.Step.{may_follow}
+use Rattle.net_model.specs.Tails.{IsUnnamedTail}
 use Rattle.straight_walks.specs.Regions.{AreRegionsFor}
 use Rattle.query_verdicts.specs.Passed.{IsFirstServerPassed}
 use Rattle.query_verdicts.specs.Queries.{AreSets, LimitedQueries, limited_to}
-use Rattle.query_verdicts.specs.Verdict.{SomeServerPasses}
+use Rattle.query_verdicts.specs.Verdict.{PassesStates, SomeServerPasses}
+use Rattle.query_verdicts.specs.declared.known_classes.KnownBelow.{KnownBelow}
+use Rattle.query_verdicts.specs.declared.known_classes.KnownClasses.{KnownClasses}
 use Rattle.query_verdicts.specs.declared.learnt.Learnt.{Learnt}
 use Rattle.query_verdicts.specs.declared.queries.Queries.{Queries}
 
@@ -28,6 +34,23 @@ pub record IsRightLearnt (config : Config) (rewrites states : ℕ) (learnt : Lea
   pub sets : AreSets config rewrites states learnt.sets
   pub regions : AreRegionsFor config learnt.sets learnt.regions
   pub all_followed : learnt.all_followed ≡ true → FollowsAll config learnt.sets.least
+
+-- whichever servers are followed, an address of the name can be learnt or can't, as is told, and the name reaches no more
+-- pairs than it may
+abbrev pub IsKnownOf : Config → ℕ → ℕ → Labels → Bool → Type 0
+IsKnownOf config rewrites states name learnt =
+    IsToldOf config rewrites name (Known learnt) × (PassesStates config rewrites states name → ⊥)
+
+-- it is so of each name with as many octets that is the other one with an unnamed tail
+abbrev pub IsKnownBelow : Config → ℕ → ℕ → KnownBelow → Type 0
+IsKnownBelow config rewrites states one =
+    (tail : Labels) → IsUnnamedTail config one.above tail → wire_octets (one.above ++ tail) ≡ one.octets
+    → IsKnownOf config rewrites states (one.above ++ tail) one.learnt
+
+-- what is known of names by their classes holds, and the graph is that of the configuration's base names
+pub record AreKnown (config : Config) (rewrites states : ℕ) (classes : KnownClasses) : Type 0 where
+  pub names : IfSome classes.names (λ names. AreSame names (ground_of config))
+  pub each : (one : KnownBelow) → Contains classes.known one → IsKnownBelow config rewrites states one
 
 -- what is told of the servers' names, none of which reaches too many pairs, or else the first that does
 abbrev pub AreToldOrPassed : Config → ℕ → ℕ → Result (List AddressTold) Labels → Type 0

@@ -1,17 +1,18 @@
 -- The names of a subject's class tree with their verdicts, and what is found in them: for the contracts of the calls on a
 -- judge of names.
-use Rattle.std.specs.Prelude.{◌≡◌, ◌≢◌, ℕ, Bool, true, false, List, [], ◌++◌, map, Option, Some, None, MatchOption}
+use Rattle.std.specs.Prelude.{◌≡◌, ◌≢◌, ℕ, Bool, true, false, List, [], ◌++◌, map, Option, Some, None, Contains, MatchOption}
 use Rattle.std.specs.List.{flat_map}
 use Rattle.std.specs.declared.cmp.Ordering.{Ordering}
 use Rattle.std.specs.declared.cmp.Ordering.TheVariants.{Less}
 use Rattle.query_verdicts.specs.Passed.{ClassPasses}
 use Rattle.query_verdicts.specs.TreeVerdicts.{AreTreeRows, TreeRow}
 use Rattle.query_verdicts.specs.Verdict.{IsClassVerdict}
-use Rattle.query_verdicts.specs.declared.report.ClassFault.{ClassFault}
+use Rattle.query_verdicts.specs.declared.first_classes.ClassFault.{ClassFault}
 use Rattle.query_verdicts.specs.declared.verdict.ClassVerdict.{ClassVerdict}
 use Rattle.query_verdicts.specs.declared.verdict.ClassVerdict.TheVariants.{Faults, StatesPassed}
 use Rattle.query_verdicts.specs.declared.verdict.NameVerdict.{NameVerdict}
 use Rattle.dns_data.specs.Name.{Labels}
+use Rattle.graph_form.specs.FirstFaults.{IsRanked}
 use Rattle.graph_form.specs.Report.{Subject}
 use Rattle.graph_form.specs.declared.report.Seen.{Seen}
 use Rattle.net_model.specs.declared.class.Class.{Class}
@@ -45,9 +46,13 @@ abbrev pub IsPassedAt : Subject → ℕ → Labels → Option Labels → Type 0
 IsPassedAt subject states name found =
     MatchOption found (NonePassesAt subject states name) (IsFirstPassedAt subject states name)
 
+-- a fault with its class
+abbrev pub class_fault : Class → Seen → ClassFault
+class_fault class seen = record { seen = seen; class = class }
+
 -- faults with their class
 abbrev pub with_class : Class → List Seen → List ClassFault
-with_class class shown = map (λ seen. record { seen = seen; class = class }) shown
+with_class class shown = map (class_fault class) shown
 
 -- the faults of a class
 abbrev pub found_in : Class → ClassVerdict → List ClassFault
@@ -74,3 +79,8 @@ found_fault found = found.seen.fault
 -- the order of the classes that show one fault
 abbrev pub class_rank : ClassFault → ClassFault → Ordering
 class_rank a b = class_cmp a.class b.class
+
+-- some of the faults are kept: each with the first of its classes
+pub record KeepsFirsts (all kept : List ClassFault) : Type 0 where
+  pub from : (one : ClassFault) → Contains kept one → Contains all one
+  pub covers : (one : ClassFault) → Contains all one → IsRanked found_fault class_rank kept one

@@ -42,7 +42,7 @@ pub(crate) fn learnt_of<'a>(queries: &Queries<'a>) -> Result<Result<Learnt<'a>, 
 }
 
 /// What is learnt from what is told of the servers' names.
-fn learnt_from<'a>(queries: &Queries<'a>, told: &[AddressTold]) -> Result<Learnt<'a>, NoMemory>
+fn learnt_from<'a>(queries: &Queries<'a>, told: &[AddressTold<'_>]) -> Result<Learnt<'a>, NoMemory>
     requires told { AreTold queries.now.trees queries.now.rewrites told.now }
     requires few { SomeServerPasses queries.now.trees queries.now.rewrites queries.now.states → ⊥ }
     ensures { IfOk result (IsRightLearnt queries.now.trees queries.now.rewrites queries.now.states) }
@@ -58,7 +58,7 @@ fn learnt_from<'a>(queries: &Queries<'a>, told: &[AddressTold]) -> Result<Learnt
 }
 
 /// The two sets of learnt addresses, from what is told of the servers' names.
-fn sets_from(queries: &Queries<'_>, told: &[AddressTold]) -> Result<LearntSets, NoMemory>
+fn sets_from(queries: &Queries<'_>, told: &[AddressTold<'_>]) -> Result<LearntSets, NoMemory>
     requires told { AreTold queries.now.trees queries.now.rewrites told.now }
     requires few { SomeServerPasses queries.now.trees queries.now.rewrites queries.now.states → ⊥ }
     ensures { IfOk result (AreSets queries.now.trees queries.now.rewrites queries.now.states) }

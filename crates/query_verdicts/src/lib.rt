@@ -13,27 +13,31 @@
 //! and a merge of their runs for several. They come from the records where two servers have one name, two zones of a
 //! server one origin, or an owner lies outside its zone.
 //!
-//! The way of a fault, from the graph of a query's walks to its entry, goes through four files: `verdicts` finds the faults
+//! The way of a fault, from the graph of a query's walks to its entry, goes through five files: `verdicts` finds the faults
 //! in the graph, `verdict` has what is told of a class and of a name and how that is filed, `name_judge` judges the two
-//! classes of a name, and `report` picks the first class that shows a fault and makes the entry.
+//! classes of a name, `first_classes` keeps of each fault the first class that shows it, and `report` makes the entry.
 //!
 //! Costs: `prepare` makes the trees of all zones and, where walks of a server's name may lead on from the top servers
 //! or these are few, a graph of that name, once. A name of the tree keeps its own live set, found once, one label on
 //! from that of the name above it: none is walked to from the root to be judged, and judging copies neither the name
 //! nor its live set. Judging a name makes a graph for each of its classes, which is dropped when its faults are found:
-//! a verdict keeps no walk, and takes no memory of its own where no class of the name shows a fault. No graph is made
-//! where the representative's walks are seen to go straight to their ends. Where each server refers the name to servers
-//! elsewhere, holds no zone for it, or answers it by data of its own and has no wildcard below it, the class below is
-//! judged by the same search, and its representative isn't made. Where each refers it elsewhere or holds no zone for
-//! it, and no zone's origin stands below it, no name below it is searched for at all. A graph is restricted to the
-//! least set of learnt addresses only where some configured server is neither in that set nor a top server. The class
-//! of a query under the configuration's own names is asked only where a graph was made and the subject tells other
-//! names apart. The report makes one graph more for each class that is the first to show some fault, and finds the
-//! first walks of all these faults in it.
+//! a verdict keeps no walk, and takes no memory of its own where no class of the name shows a fault, nor where it is seen
+//! to be the same as another. No graph is made where the representative's walks are seen to go straight to their ends.
+//! Where each server refers the name to servers elsewhere, holds no zone for it, or answers it by data of its own and
+//! has no wildcard below it, the class below is judged by the same search, and its representative isn't made. Where each
+//! refers it elsewhere or holds no zone for it, and no zone's origin stands below it, no name below it is searched for
+//! at all. A graph is restricted to the least set of learnt addresses only where some configured server is neither in
+//! that set nor a top server. The class of a query under the configuration's own names is asked only where a graph was
+//! made and the subject tells other names apart. The report takes room for each fault, and not for each class that
+//! shows it. It makes one graph more for each class that is the first to show some fault, and finds the first walks of
+//! all these faults in it.
 #![tactic(auto)]
 
 mod base_names;
+mod equal;
+mod first_classes;
 mod graphs;
+mod known_classes;
 pub mod laws;
 mod learnt;
 mod name_judge;

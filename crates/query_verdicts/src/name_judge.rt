@@ -82,9 +82,11 @@ impl<'a, S: OnSubject> NameJudge<'a, S> {
     }
 
     /// The verdict of a name of the class tree, to be filed, and the names of the tree one label below it, in order. No
-    /// name below it is searched for where it is known that none shows a fault.
+    /// name below it is searched for where it is known that none shows a fault. The name's region is looked for near a
+    /// place first, whatever that is, and the place is left near which that of the next name may be looked for.
     pub fn judge(
         &self,
+        near: &mut usize,
         item: &TreeName<SubjectGround<S>>,
     ) -> Result<Judged<TreeName<SubjectGround<S>>, FiledVerdict>, NoMemory>
         requires { IsInTree S.subject.ground item.now }
@@ -95,7 +97,7 @@ impl<'a, S: OnSubject> NameJudge<'a, S> {
             let verdict = self.quiet_name(item.live_name())?;
             self.with_children(item, verdict, true)
         } else {
-            self.judge_searched(item)
+            self.judge_searched(near, item)
         }
     }
 
@@ -110,20 +112,20 @@ impl<'a, S: OnSubject> NameJudge<'a, S> {
     }
 
     /// The verdict of a name of the class tree and the names one label below it. The region of its representative below is
-    /// searched from its own; `usize::MAX` means no hint.
+    /// searched from its own.
     fn judge_searched(
         &self,
+        near: &mut usize,
         item: &TreeName<SubjectGround<S>>,
     ) -> Result<Judged<TreeName<SubjectGround<S>>, FiledVerdict>, NoMemory>
         requires { IsInTree S.subject.ground item.now }
         ensures verdict { IfOk result (λ judged. IsNameVerdict S.subject S.states item.now judged.verdict) }
         ensures children { IfOk result (λ judged. AreChildren S.subject.ground item.now judged.children) }
     {
-        let mut near = usize::MAX;
         let name = item.live_name();
-        let quiet = self.quiet(&mut near, &name.name)?;
-        let all_quiet = self.all_quiet(quiet, near, &name.name);
-        let verdict = self.judge_name(quiet, &mut near, name)?;
+        let quiet = self.quiet(near, &name.name)?;
+        let all_quiet = self.all_quiet(quiet, *near, &name.name);
+        let verdict = self.judge_name(quiet, near, name)?;
         self.with_children(item, verdict, all_quiet)
     }
 

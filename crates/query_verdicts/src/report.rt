@@ -3,10 +3,9 @@
 
 ghost use Rattle.std.specs.Prelude.{◌≡◌, ◌++◌, ◌≤◌, ◌<◌, ◌^◌, All, length, IfOk, IfErr, IfSome, IsPermutation, OnOk, Some, slice_get};
 ghost use Rattle.std.specs.List.Sorted.{IsSortedBy};
-ghost use Rattle.std.proofs.lemmas.Cmp.{on_total};
 ghost use Rattle.query_verdicts.specs.Entries.{AreEntries, AreEntriesOf, IsEntryOf, IsRightFound, IsWalked, PutsEntry, entry_of_parts, is_before};
 ghost use Rattle.query_verdicts.specs.Passed.{NonePasses, IsReportFault};
-ghost use Rattle.query_verdicts.specs.Rows.{AreRows, class_rank, found_at, found_fault, found_in, found_of};
+ghost use Rattle.query_verdicts.specs.Rows.{AreRows};
 ghost use Rattle.query_verdicts.specs.Queries.{IsLeastGraph};
 ghost use Rattle.query_verdicts.specs.TreeVerdicts.{below_count};
 ghost use Rattle.query_verdicts.specs.Verdict.{PassesStates};
@@ -14,19 +13,18 @@ ghost use Rattle.dns_data.specs.Name.{Labels};
 ghost use Rattle.graph_form.specs.Report.{IsClass, IsReport, repeats};
 ghost use Rattle.net_model.specs.Class.{IsRepresentative};
 ghost use Rattle.net_model.specs.declared.walk.Walk.{Walk as WalkValue};
-ghost use Rattle.net_model.proofs.FaultOrder.{classes_total};
 
+use crate::first_classes::{ClassFault, first_classes};
 use crate::name_judge::NameJudge;
 use crate::passed::first_passed;
 use crate::subject::{OnSubject, SubjectGround};
-use crate::verdict::{ClassVerdict, FiledVerdict, NameVerdict};
+use crate::verdict::FiledVerdict;
 use dns_data::{List, Name, NoMemory};
-use graph_form::{Graph, OfFault, Report, ReportEntry, Seen, first_of_each, repeats, trails};
+use graph_form::{Graph, Report, ReportEntry, repeats, trails};
 use interp_graph::GraphFault;
-use net_model::{Class, Fault, Walk};
+use net_model::{Class, Walk};
 use query_classes::TreeName;
 use std::alloc::Global;
-use std::cmp::Ordering;
 use thiserror::Error;
 use verdict_book::{Filed, Work};
 
@@ -125,103 +123,12 @@ fn entries_of<S: OnSubject, W: Work<Item = TreeName<SubjectGround<S>>, Verdict =
     requires none_passes { NonePasses S.subject S.states }
     ensures { IfOk result (AreEntries S.subject) }
 {
-    let found = found_of(judge.alloc(), filed)?;
-    let firsts = first_of_each(judge.alloc(), found)?;
+    let firsts = first_classes(judge.alloc(), filed)?;
     let by_class = in_class_order(firsts)?;
     let made = entries_by_class(judge, by_class)?;
     // Named, since the proof speaks of the list that comes where memory suffices.
     let entries = in_fault_order(made)?;
     Ok(entries)
-}
-
-/// A fault with its first type, and a class that shows it.
-#[derive(Drop)]
-struct ClassFault {
-    seen: Seen,
-    class: Class,
-}
-
-impl OfFault for ClassFault {
-    ghost fault_of = { found_fault };
-
-    ghost rank = { class_rank };
-
-    fn its_fault(&self) -> &Fault {
-        &self.seen.fault
-    }
-
-    fn compare_rank(&self, other: &ClassFault) -> Ordering {
-        self.class.compare(&other.class)
-    }
-
-    ghost total = { on_total (λ found. found.class) classes_total };
-}
-
-/// The faults of the names, each with its class.
-fn found_of<S: OnSubject, W: Work<Item = TreeName<SubjectGround<S>>, Verdict = FiledVerdict>>(
-    alloc: Global,
-    filed: List<Filed<W>>,
-) -> Result<List<ClassFault>, NoMemory>
-    ensures { IfOk result (λ found. found ≡ found_of filed) }
-{
-    let mut found = List::new(alloc);
-    for one in filed {
-        let Filed { item, verdict } = one;
-        put_name(alloc, item.into_name(), verdict, &mut found)?;
-    }
-    Ok(found)
-}
-
-/// Puts the faults of the classes of a name at the end.
-#[tactic(auto, using(crate::proofs::FoundNothing::none_found))]
-fn put_name(
-    alloc: Global,
-    name: Name,
-    verdict: FiledVerdict,
-    found: &mut List<ClassFault>,
-) -> Result<(), NoMemory>
-    ensures { OnOk result (found.new ≡ found.old ++ found_at name verdict) }
-{
-    match verdict.into_told() {
-        Some(verdict) => put_classes(alloc, name, verdict, found),
-        None => Ok(()),
-    }
-}
-
-/// Puts the faults of the class of a name alone and of the class below it at the end.
-fn put_classes(
-    alloc: Global,
-    name: Name,
-    verdict: NameVerdict<ClassVerdict>,
-    found: &mut List<ClassFault>,
-) -> Result<(), NoMemory>
-    ensures { OnOk result (found.new ≡ found.old ++ found_at name verdict) }
-{
-    let class = Class::Exact(name.copy(alloc)?);
-    let NameVerdict { exact, below } = verdict;
-    put_class(alloc, &class, exact, found)?;
-    match below {
-        Some(verdict) => put_class(alloc, &Class::Below(name), verdict, found),
-        None => Ok(()),
-    }
-}
-
-/// Puts the faults of a class at the end.
-fn put_class(
-    alloc: Global,
-    class: &Class,
-    verdict: ClassVerdict,
-    found: &mut List<ClassFault>,
-) -> Result<(), NoMemory>
-    ensures { OnOk result (found.new ≡ found.old ++ found_in class.now verdict) }
-{
-    if let ClassVerdict::Faults(shown) = verdict {
-        for seen in shown {
-            let class = class.copy(alloc)?;
-            found.push(ClassFault { seen, class })?;
-        }
-    }
-    Ok(())
 }
 
 /// The faults, those of one class one after the other.

@@ -1,15 +1,18 @@
 //! What is told of a class and of a name of the class tree, and how a name's verdict is filed.
 
 ghost use Rattle.std.specs.Prelude.{◌≡◌, [], IsTrue, IfOk, IfSome, MatchOption, is_some, false};
+ghost use Rattle.std.specs.Arc.{arc_value};
 ghost use Rattle.std.specs.Option.{option_map_or};
 ghost use Rattle.query_verdicts.specs.FiledVerdict.{TellsNothing, verdict_told};
 ghost use Rattle.query_verdicts.specs.Rows.{passes};
 ghost use Rattle.query_verdicts.specs.declared.verdict.ClassVerdict.TheVariants.{Faults};
 
+use crate::equal::is_same;
 use dns_data::{List, NoMemory};
 use graph_form::Seen;
 use std::alloc::Global;
 use std::marker::Model;
+use std::sync::Arc;
 
 /// What is told of a class: the faults that its representative shows, in fault order, each with its first type; or that the
 /// representative reaches more pairs of state and type than are looked at.
@@ -28,7 +31,7 @@ pub struct NameVerdict<C> {
 }
 
 /// The verdict of a name of the class tree, as it is filed. Where it tells nothing, as nearly all do, it takes no
-/// memory of its own. Contracts see the verdict.
+/// memory of its own, and others may stand in one place of memory. Contracts see the verdict.
 #[derive(Debug, Drop)]
 pub struct FiledVerdict {
     told: FiledForm,
@@ -43,7 +46,7 @@ enum FiledForm {
     /// Nothing, and the class below the name is empty.
     NothingAlone,
     /// What the verdict says.
-    Whole(Box<NameVerdict<ClassVerdict>>),
+    Whole(Arc<NameVerdict<ClassVerdict>>),
 }
 
 impl Model for FiledVerdict {
@@ -68,18 +71,43 @@ impl FiledVerdict {
         match nothing_told(&verdict) {
             Some(told) => Ok(FiledVerdict { told }),
             None => Ok(FiledVerdict {
-                told: FiledForm::Whole(Box::new(alloc, verdict)?),
+                told: FiledForm::Whole(Arc::new(alloc, verdict)?),
             }),
         }
     }
 
     /// The verdict, or `None` where nothing is told.
-    pub(crate) fn into_told(self) -> Option<NameVerdict<ClassVerdict>>
-        ensures { MatchOption result (TellsNothing self) (λ verdict. verdict ≡ self) }
+    pub(crate) fn told(&self) -> Option<&NameVerdict<ClassVerdict>>
+        ensures { MatchOption result (TellsNothing self.now) (λ verdict. verdict.now ≡ self.now) }
     {
-        match self.told {
-            FiledForm::Whole(verdict) => Some(Box::into_inner(verdict)),
+        match &self.told {
+            FiledForm::Whole(verdict) => Some(verdict),
             FiledForm::Nothing | FiledForm::NothingAlone => None,
+        }
+    }
+
+    /// Whether something is told, so that equal verdicts may stand in one place of memory.
+    pub fn may_be_shared(&self) -> bool {
+        matches!(self.told, FiledForm::Whole(_))
+    }
+
+    /// The verdict in the place of another one, where something is told and the two are found to be the same.
+    pub fn shared(&self, other: &FiledVerdict) -> Option<FiledVerdict>
+        ensures { IfSome result (λ same. same ≡ self.now) }
+    {
+        match &other.told {
+            FiledForm::Whole(verdict) if self.is_told(verdict) => again(verdict),
+            _ => None,
+        }
+    }
+
+    /// Whether this verdict is found to be told.
+    fn is_told(&self, verdict: &NameVerdict<ClassVerdict>) -> bool
+        ensures { IsTrue result → verdict.now ≡ self.now }
+    {
+        match self.told() {
+            Some(told) => is_same(verdict, told),
+            None => false,
         }
     }
 
@@ -112,6 +140,18 @@ impl FiledVerdict {
             FiledForm::Nothing => true,
             FiledForm::NothingAlone => false,
         }
+    }
+}
+
+/// A verdict that is told already, in the same place of memory: `None` where that place has too many owners.
+fn again(verdict: &Arc<NameVerdict<ClassVerdict>>) -> Option<FiledVerdict>
+    ensures { IfSome result (λ filed. filed ≡ arc_value verdict.now) }
+{
+    match Arc::try_clone(verdict) {
+        Ok(same) => Some(FiledVerdict {
+            told: FiledForm::Whole(same),
+        }),
+        Err(_) => None,
     }
 }
 

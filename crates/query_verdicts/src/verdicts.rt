@@ -1,13 +1,15 @@
 //! The verdict of a query: the graph of its walks, and the faults that these show.
 
-ghost use Rattle.std.specs.Prelude.{◌≡◌, ◌++◌, true, ℕ, IfOk};
+ghost use Rattle.std.specs.Prelude.{◌≡◌, ◌++◌, true, ℕ, AllPairs, IfOk};
+ghost use Rattle.std.specs.declared.cmp.Ordering.TheVariants.{Less};
 ghost use Rattle.query_verdicts.specs.Learnt.{IsRightLearnt};
 ghost use Rattle.query_verdicts.specs.Queries.{IsOwnClass};
 ghost use Rattle.query_verdicts.specs.Verdict.{AreFaultsOf, IsClassVerdict, SomeServerPasses};
 ghost use Rattle.dns_data.specs.Name.{Labels};
 ghost use Rattle.graph_form.specs.GraphOf.{IsExactIn, IsGraphOf};
-ghost use Rattle.graph_form.specs.Verdict.{AreShownOf};
+ghost use Rattle.graph_form.specs.Verdict.{AreFirstTypes, AreShownOf};
 ghost use Rattle.interp_graph.specs.Asked.{IsBuilt};
+ghost use Rattle.net_model.specs.FaultOrder.{fault_cmp};
 ghost use Rattle.net_model.specs.Learnt.{IsLeast, IsGreatest};
 ghost use Rattle.net_model.specs.Shown.{with_sets};
 ghost use Rattle.net_model.specs.Step.{following};
@@ -24,6 +26,7 @@ use interp_graph::{GraphFault, restrict};
 use net_model::Class;
 use query_classes::class_of;
 use rewrite_checks::rewrite_faults;
+use std::alloc::Global;
 use zone_lookup::LearntSets;
 
 /// The verdict of a query by a graph of its walks, with what is learnt of its configuration.
@@ -102,7 +105,24 @@ fn shown_in(
     let alloc = queries.alloc;
     let of_rewrites = rewrite_faults(alloc, class, represents, graph)?;
     let of_delegations = delegation_faults_with(alloc, &queries.trees, sets, graph)?;
-    let all = joined(of_rewrites, of_delegations)?;
+    // Named, since the proof speaks of the list that comes where memory suffices.
+    let shown = first_of_both(alloc, of_rewrites, of_delegations)?;
+    Ok(shown)
+}
+
+/// The first type of each fault of both lists, in fault order, where each list has its faults once and in this order. It
+/// takes no time where one of them is empty.
+fn first_of_both(alloc: Global, one: List<Seen>, other: List<Seen>) -> Result<List<Seen>, NoMemory>
+    ensures { IfOk result (λ shown. AllPairs (λ a b. fault_cmp a.fault b.fault ≡ Less) one → AllPairs (λ a b. fault_cmp a.fault b.fault ≡ Less) other
+        → AreFirstTypes (one ++ other) shown) }
+{
+    if one.is_empty() {
+        return Ok(other);
+    }
+    if other.is_empty() {
+        return Ok(one);
+    }
+    let all = joined(one, other)?;
     // Named, since the proof speaks of the list that comes where memory suffices.
     let shown = first_types(alloc, all)?;
     Ok(shown)

@@ -16,6 +16,7 @@ use crate::filed::{Filed, list_rows};
 use crate::filing::{Back, FileFault, Issued};
 use crate::order::sort_by_places;
 use crate::row::{Row, TicketState, file_row, kept_at};
+use crate::sharing::{COMPARED, shared};
 use crate::work::Work;
 use dns_data::{List, NoMemory};
 use pool_core::{HistoryEntry, StopCause};
@@ -32,6 +33,8 @@ use std::marker::Model;
 /// oldest ticket is always claimed first, are found by a comparison an item and merged by about as many more
 /// as the binary logarithm of the number of runs; where there are only short ones, an item takes about the
 /// binary logarithm of the number of items.
+///
+/// A verdict that may be shared is compared with the last few such verdicts, and is kept in the memory of an equal one.
 #[derive(Drop)]
 pub struct Book<W: Work> {
     limit: u32,
@@ -39,6 +42,7 @@ pub struct Book<W: Work> {
     history: Vec<HistoryEntry>,
     stopped: Option<StopCause>,
     filed: u32,
+    last: [u32; COMPARED],
 }
 
 impl<W: Work> Model for Book<W> {
@@ -73,6 +77,7 @@ impl<W: Work> Book<W> {
             history,
             stopped: None,
             filed: 0,
+            last: [0; COMPARED],
         })
     }
 
@@ -212,7 +217,8 @@ impl<W: Work> Book<W> {
             first: self.rows.len() as u32,
             count: count as u32,
         };
-        file_row(&mut self.rows, ticket as usize, back.verdict, back.children);
+        let verdict = shared::<W>(self.rows.as_slice(), &mut self.last, ticket, back.verdict);
+        file_row(&mut self.rows, ticket as usize, verdict, back.children);
         self.history.push_reserved(HistoryEntry::File {
             ticket,
             children: issued.count,

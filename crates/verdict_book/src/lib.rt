@@ -12,6 +12,7 @@ mod filing;
 pub mod laws;
 mod order;
 mod row;
+mod sharing;
 mod walk;
 mod work;
 

@@ -1,16 +1,18 @@
 //! A work: items, of which each has children and a verdict.
 
-ghost use Rattle.std.specs.Prelude.{◌≡◌, ◌+◌, ◌^◌, ◌-◌, ℕ, List as Items, IfOk, min};
+ghost use Rattle.std.specs.Prelude.{◌≡◌, ◌+◌, ◌^◌, ◌-◌, ℕ, List as Items, IfOk, IfSome, min};
 ghost use Rattle.std.specs.declared.cmp.Ordering.TheVariants.{Equal};
 ghost use Rattle.verdict_book.specs.Items.{Reached, ParentsApart};
 
 use dns_data::{List, NoMemory};
 use std::marker::Model;
 
-/// Counts the judging calls of one worker. Contracts see how many there were.
+/// Counts the judging calls of one worker, and keeps the hint that a call leaves for the next one. Contracts see how many
+/// calls there were: no meaning rests on a hint.
 #[derive(Debug, Drop)]
 pub struct JudgeShare {
     calls: u64,
+    hint: usize,
 }
 
 impl Model for JudgeShare {
@@ -20,11 +22,14 @@ impl Model for JudgeShare {
 }
 
 impl JudgeShare {
-    /// No call.
+    /// No call, and no hint.
     pub fn new() -> JudgeShare
         ensures { result ≡ 0 }
     {
-        JudgeShare { calls: 0 }
+        JudgeShare {
+            calls: 0,
+            hint: usize::MAX,
+        }
     }
 
     /// One call more, up to the type's end.
@@ -39,6 +44,18 @@ impl JudgeShare {
         ensures { result ≡ self.now }
     {
         self.calls
+    }
+
+    /// What the last call left, or `usize::MAX` before one left anything.
+    pub fn hint(&self) -> usize {
+        self.hint
+    }
+
+    /// Leaves a hint for the next call.
+    pub fn leave(&mut self, hint: usize)
+        ensures { self.new ≡ self.old }
+    {
+        self.hint = hint;
     }
 }
 
@@ -83,6 +100,18 @@ pub trait Work {
     /// An equal item.
     fn copy_item(&self, item: &Self::Item) -> Result<Self::Item, NoMemory>
         ensures { IfOk result (λ copy. copy ≡ item.now) };
+
+    /// Whether an equal verdict may stand in the memory of this one: `false` where a work says nothing else.
+    fn may_be_shared(_verdict: &Self::Verdict) -> bool {
+        false
+    }
+
+    /// The verdict in the memory of another one, where it is equal to that. `None` says nothing.
+    fn shared(verdict: &Self::Verdict, _other: &Self::Verdict) -> Option<Self::Verdict>
+        ensures { IfSome result (λ same. same ≡ verdict.now) }
+    {
+        None
+    }
 
     ghost parents_apart: { ParentsApart first_item children_of };
 

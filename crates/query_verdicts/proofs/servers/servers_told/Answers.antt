@@ -8,16 +8,19 @@ use Rattle.query_verdicts.proofs.ServersTold.{AreSoFar, all_told, first_server, 
 use Rattle.query_verdicts.proofs.servers.servers_told.Goals as goal
 
 pub told_of-requires : goal.told_of-requires
-told_of-requires c = c.in_ok-tops.ensures
+told_of-requires c = record { tops = c.in_ok-tops.ensures; known = c.loop-server.invariant.known }
 
 pub loop-server-preserved : goal.loop-server-preserved
 loop-server-preserved c =
     let queries = c.args.queries.now in
     let servers = c.items-server-items.result.now in
     let index = c.loop-server.server-index in
-    subst (AreSoFar queries.trees queries.rewrites queries.states (take (index + 1) servers)) (sym c.in_ok-push-in-Ok.ensures.ok)
-    (one_more_told queries.trees queries.rewrites queries.states servers index c.loop-server.told c.server-item.result c.in-Ok.one c.loop-server-test.true
-    (sym c.server-item.is) c.loop-server.invariant c.in-Ok.ensures.told c.in-Ok.ensures.few)
+    record {
+      so_far = subst (AreSoFar queries.trees queries.rewrites queries.states (take (index + 1) servers)) (sym c.in_ok-push-in-Ok.ensures.ok)
+          (one_more_told queries.trees queries.rewrites queries.states servers index c.loop-server.told c.server-item.result c.in-Ok.one c.loop-server-test.true
+          (sym c.server-item.is) c.loop-server.invariant.so_far c.in-Ok.ensures.told c.in-Ok.ensures.few);
+      known = c.in-Ok.ensures.known;
+    }
 
 pub returns-in-Err-StatesPassed : goal.returns-in-Err-StatesPassed
 returns-in-Err-StatesPassed c =
@@ -29,7 +32,7 @@ returns-in-Err-StatesPassed c =
     (first_server queries.trees queries.rewrites queries.states index c.loop-server.told server
     (subst (λ (servers : List Server). index < length servers) are c.loop-server-test.true)
     (subst (λ (servers : List Server). get_or servers index server ≡ server) are (sym c.server-item.is))
-    (subst (λ (servers : List Server). AreSoFar queries.trees queries.rewrites queries.states (take index servers) c.loop-server.told) are c.loop-server.invariant)
+    (subst (λ (servers : List Server). AreSoFar queries.trees queries.rewrites queries.states (take index servers) c.loop-server.told) are c.loop-server.invariant.so_far)
     c.labels.ensures.name (c.in-Err-StatesPassed.ensures.passed (ap {B = Result AddressTold GraphFault} (λ (fault : GraphFault). Err fault) c.in-Err-StatesPassed.field-0-is)))
 
 pub returns : goal.returns
@@ -38,7 +41,7 @@ returns c =
     let index = c.loop-server.server-index in
     let are : c.items-server-items.result.now ≡ queries.trees.servers = c.items-server-items.ensures ∙ ap (λ (x : Config). x.servers) c.config-config.ensures in
     let long = subst (λ (servers : List Server). length servers ≤ index) are c.loop-server-test.false in
-    let so_far = subst (λ (servers : List Server). AreSoFar queries.trees queries.rewrites queries.states (take index servers) c.loop-server.told) are c.loop-server.invariant in (
+    let so_far = subst (λ (servers : List Server). AreSoFar queries.trees queries.rewrites queries.states (take index servers) c.loop-server.told) are c.loop-server.invariant.so_far in (
       all_told queries.trees queries.rewrites queries.states index c.loop-server.told long so_far,
       none_passes queries.trees queries.rewrites queries.states index c.loop-server.told long so_far,
     )

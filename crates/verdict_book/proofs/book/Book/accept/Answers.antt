@@ -44,7 +44,7 @@ overflow_add-self g c =
     let room : length h + 2 ≤ vec_capacity c.push_reserved.new.self = omega (arith, len, said, len', cap') in
     let fits = subst (λ (p : Pages). issued_in p.history + length c.args.back.children ≤ p.limit) (sym c.self.view_is) c.requires.room in
     let history = c.push_reserved.ensures.items ∙ ap (λ l. l ++ FileOf claim.ticket (length c.items-count.result.now) ∷ []) c.reserve-else-is_err.ensures.items ∙ ap (λ l. h ++ FileOf claim.ticket (length l) ∷ []) c.items-count.ensures in
-    let kept = filing_keeps g.W.Work.first_item g.W.Work.children_of g.W.Work.verdict_of g.met.W.Work.parents_apart _ _ rows _ _ _ c.self.invariant cmp same claim c.args.back.verdict c.args.back.children c.reserve.new.self.items c.file_row.new.rows.items _ (vec_capacity c.push_reserved.new.self) keeps fits c.requires.verdict c.requires.children c.reserve.ensures.items c.file_row.ensures history room in
+    let kept = filing_keeps g.W.Work.first_item g.W.Work.children_of g.W.Work.verdict_of g.met.W.Work.parents_apart _ _ rows _ _ _ c.self.invariant cmp same claim c.shared-verdict.result c.args.back.children c.reserve.new.self.items c.file_row.new.rows.items _ (vec_capacity c.push_reserved.new.self) keeps fits (c.shared-verdict.ensures ∙ c.requires.verdict) c.requires.children c.reserve.ensures.items c.file_row.ensures history room in
     let few = filed_few first children g.W.Work.verdict_of g.met.W.Work.parents_apart _ _ _ _ _ _ kept in
     let low = within first children g.W.Work.verdict_of g.met.W.Work.parents_apart _ _ _ _ _ _ kept in
     omega (arith, few, low)
@@ -67,7 +67,7 @@ invariant_of-self-2 g c =
     let room : length h + 2 ≤ vec_capacity c.push_reserved.new.self = omega (arith, len, said, len', cap') in
     let few = subst (λ (p : Pages). issued_in p.history + length c.args.back.children ≤ p.limit) (sym c.self.view_is) c.requires.room in
     let history = c.push_reserved.ensures.items ∙ ap (λ l. l ++ FileOf claim.ticket (length c.items-count.result.now) ∷ []) c.reserve-else-is_err.ensures.items ∙ ap (λ l. h ++ FileOf claim.ticket (length l) ∷ []) c.items-count.ensures in
-    let kept = filing_keeps g.W.Work.first_item g.W.Work.children_of g.W.Work.verdict_of g.met.W.Work.parents_apart _ _ rows _ _ _ c.self.invariant cmp same claim c.args.back.verdict c.args.back.children c.reserve.new.self.items c.file_row.new.rows.items _ (vec_capacity c.push_reserved.new.self) keeps few c.requires.verdict c.requires.children c.reserve.ensures.items c.file_row.ensures history room in
+    let kept = filing_keeps g.W.Work.first_item g.W.Work.children_of g.W.Work.verdict_of g.met.W.Work.parents_apart _ _ rows _ _ _ c.self.invariant cmp same claim c.shared-verdict.result c.args.back.children c.reserve.new.self.items c.file_row.new.rows.items _ (vec_capacity c.push_reserved.new.self) keeps few (c.shared-verdict.ensures ∙ c.requires.verdict) c.requires.children c.reserve.ensures.items c.file_row.ensures history room in
     kept
 
 pub returns-clause-issued : goal.returns-clause-issued
