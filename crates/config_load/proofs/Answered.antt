@@ -3,11 +3,9 @@ use Rattle.std.proofs.Common.{◌≡◌, ◌≢◌, ℕ, ◌⊎◌, Bool, true, 
 use lib.Pointwise.{pointwise}
 use Rattle.dns_data.proofs.Names.{label_eq_decides}
 use Rattle.io_edges.specs.Files.{FilesTold, Untold}
-use Rattle.net_model.specs.declared.config.Config.{Config}
-use Rattle.config_load.specs.Conf.{conf}
 use Rattle.config_load.specs.Faults.{FailedAt}
 use Rattle.config_load.specs.Follows.{ByTold, TellsNoOther, StopsEarly, Follows, Reaches, Answers}
-use Rattle.config_load.specs.Load.{without, ComesToFile, NoReadFailed, Gives, FailedWhereItCame, IsReadFault, IsAnswerTo}
+use Rattle.config_load.specs.Load.{without, ComesToFile, NoFailureIn, Gives, FailedWhereItCame, IsReadFault, IsAnswerTo}
 use Rattle.config_load.specs.Reading.{Reading, Reads, Refuses, Misses, Unknown}
 use Rattle.config_load.specs.declared.fault.LoadFault.{LoadFault}
 use Rattle.config_load.specs.declared.fault.LoadFault.TheVariants.{Read, TooLong, Meta, Text, Rule, ZoneTwice, NoMemory}
@@ -96,15 +94,15 @@ module _ {A : Type 0} where
   FailedWhereItCame-answers told reading (Err (ZoneTwice row)) a = tt
 
 -- where no read failed the answer is the whole of what the reading gives
-pub IsAnswerTo-answers : (told : FilesTold) (meta : List ℕ) (before after : List ℕ → ℕ) (reading : Reading Config) (result : Result Config LoadFault) → Gives reading result → FailedAt before after result → FailedWhereItCame (conf meta) told result → NoReadFailed meta told before after → IsAnswerTo reading result
-IsAnswerTo-answers told meta before after reading (Ok value) gives rose came none = subst (λ r. IsAnswerTo r (Ok value)) (sym gives) (inl refl)
-IsAnswerTo-answers told meta before after reading (Err (Read file)) gives rose came none = absurd (none file came rose)
-IsAnswerTo-answers told meta before after (Reads value) (Err NoMemory) gives rose came none = inr refl
-IsAnswerTo-answers told meta before after (Refuses fault) (Err NoMemory) gives rose came none = inr refl
-IsAnswerTo-answers told meta before after (Misses file) (Err NoMemory) gives rose came none = refl
-IsAnswerTo-answers told meta before after (Unknown file) (Err NoMemory) gives rose came none = refl
-IsAnswerTo-answers told meta before after reading (Err (TooLong file)) gives rose came none = subst (λ r. IsAnswerTo r (Err (TooLong file))) (sym gives) (inl refl)
-IsAnswerTo-answers told meta before after reading (Err (Meta fault)) gives rose came none = subst (λ r. IsAnswerTo r (Err (Meta fault))) (sym gives) (inl refl)
-IsAnswerTo-answers told meta before after reading (Err (Text file line cause)) gives rose came none = subst (λ r. IsAnswerTo r (Err (Text file line cause))) (sym gives) (inl refl)
-IsAnswerTo-answers told meta before after reading (Err (Rule file line cause)) gives rose came none = subst (λ r. IsAnswerTo r (Err (Rule file line cause))) (sym gives) (inl refl)
-IsAnswerTo-answers told meta before after reading (Err (ZoneTwice row)) gives rose came none = subst (λ r. IsAnswerTo r (Err (ZoneTwice row))) (sym gives) (inl refl)
+pub IsAnswerTo-answers : {A : Type 0} (told : FilesTold) (whole : ByTold A) (before after : List ℕ → ℕ) (reading : Reading A) (result : Result A LoadFault) → Gives reading result → FailedAt before after result → FailedWhereItCame whole told result → NoFailureIn whole told before after → IsAnswerTo reading result
+IsAnswerTo-answers told whole before after reading (Ok value) gives rose came none = subst (λ r. IsAnswerTo r (Ok value)) (sym gives) (inl refl)
+IsAnswerTo-answers told whole before after reading (Err (Read file)) gives rose came none = absurd (none file came rose)
+IsAnswerTo-answers told whole before after (Reads value) (Err NoMemory) gives rose came none = inr refl
+IsAnswerTo-answers told whole before after (Refuses fault) (Err NoMemory) gives rose came none = inr refl
+IsAnswerTo-answers told whole before after (Misses file) (Err NoMemory) gives rose came none = refl
+IsAnswerTo-answers told whole before after (Unknown file) (Err NoMemory) gives rose came none = refl
+IsAnswerTo-answers told whole before after reading (Err (TooLong file)) gives rose came none = subst (λ r. IsAnswerTo r (Err (TooLong file))) (sym gives) (inl refl)
+IsAnswerTo-answers told whole before after reading (Err (Meta fault)) gives rose came none = subst (λ r. IsAnswerTo r (Err (Meta fault))) (sym gives) (inl refl)
+IsAnswerTo-answers told whole before after reading (Err (Text file line cause)) gives rose came none = subst (λ r. IsAnswerTo r (Err (Text file line cause))) (sym gives) (inl refl)
+IsAnswerTo-answers told whole before after reading (Err (Rule file line cause)) gives rose came none = subst (λ r. IsAnswerTo r (Err (Rule file line cause))) (sym gives) (inl refl)
+IsAnswerTo-answers told whole before after reading (Err (ZoneTwice row)) gives rose came none = subst (λ r. IsAnswerTo r (Err (ZoneTwice row))) (sym gives) (inl refl)

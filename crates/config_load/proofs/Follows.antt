@@ -4,9 +4,11 @@ use Rattle.std.proofs.lemmas.Bool.Decides.{nat_tests}
 use Rattle.io_edges.specs.Files.{FilesTold, Told, Untold, NotHeld, Holds, IsToldAnd, StaysTold}
 use Rattle.config_load.specs.Faults.{IsReadOf, IsTooLongOf}
 use Rattle.config_load.specs.Follows.{ByTold, TellsNoOther, StopsEarly, Follows, Reaches, Answers}
-use Rattle.config_load.specs.Reading.{Reading, Reads, Refuses, Unknown, ◌>>=◌, file_octets, told_octets, most_octets}
+use Rattle.config_load.specs.Limits.{most_octets}
+use Rattle.config_load.specs.Reading.{Reading, Reads, Refuses, Unknown, ◌>>=◌, file_octets, told_octets}
 use Rattle.config_load.specs.declared.fault.LoadFault.{LoadFault}
 use Rattle.config_load.specs.declared.fault.LoadFault.TheVariants.{Read, TooLong, Meta, Text, Rule, ZoneTwice, NoMemory}
+use Rattle.config_load.specs.declared.limits.Limits.{Limits}
 
 -- what is told tells no other than itself
 pub TellsNoOther-self : (told : FilesTold) → TellsNoOther told told
@@ -98,42 +100,42 @@ module _ {A B : Type 0} where
       subst (λ f. let answer : Result B LoadFault = Err f in Answers told (λ t. first t >>= next t) answer) (sym is) (Answers-bind told first next fault a)
 
 -- a file of which octets are told
-follows_holds : (told : FilesTold) (name octets : List ℕ) (reading : Reading (List ℕ)) → told name ≡ Holds octets → told_octets name (Holds octets) ≡ reading → Follows told (file_octets name) (λ _. reading)
-follows_holds told name octets reading here is other no_other = by_cases (no_other name) where
-  by_cases : (told name ≡ Untold) ⊎ ((other name ≡ told name) ⊎ (other name ≡ Untold)) → (file_octets name other ≡ reading) ⊎ StopsEarly told other (file_octets name other)
+follows_holds : (limits : Limits) (told : FilesTold) (name octets : List ℕ) (reading : Reading (List ℕ)) → told name ≡ Holds octets → told_octets limits name (Holds octets) ≡ reading → Follows told (file_octets limits name) (λ _. reading)
+follows_holds limits told name octets reading here is other no_other = by_cases (no_other name) where
+  by_cases : (told name ≡ Untold) ⊎ ((other name ≡ told name) ⊎ (other name ≡ Untold)) → (file_octets limits name other ≡ reading) ⊎ StopsEarly told other (file_octets limits name other)
   by_cases (inl untold) = let no : Holds octets ≡ Untold = sym here ∙ untold in absurd cc
-  by_cases (inr (inl same)) = inl (ap (told_octets name) (same ∙ here) ∙ is)
-  by_cases (inr (inr untold)) = inr (name, ap (told_octets name) untold, untold, λ gone. let no : Holds octets ≡ Untold = sym here ∙ gone in absurd cc)
+  by_cases (inr (inl same)) = inl (ap (told_octets limits name) (same ∙ here) ∙ is)
+  by_cases (inr (inr untold)) = inr (name, ap (told_octets limits name) untold, untold, λ gone. let no : Holds octets ≡ Untold = sym here ∙ gone in absurd cc)
 
 -- what is told of a file that was read to its end takes its reading to the octets
-pub Follows-whole : (told : FilesTold) (name octets : List ℕ) → told name ≡ Holds octets → length octets ≤ most_octets → Follows told (file_octets name) (λ _. Reads octets)
-Follows-whole told name octets here short = follows_holds told name octets (Reads octets) here (grind (arith, nat_tests))
+pub Follows-whole : (limits : Limits) (told : FilesTold) (name octets : List ℕ) → told name ≡ Holds octets → length octets ≤ most_octets limits → Follows told (file_octets limits name) (λ _. Reads octets)
+Follows-whole limits told name octets here short = follows_holds limits told name octets (Reads octets) here (grind (arith, nat_tests))
 
 -- what is told of a file that is too long takes its reading to that fault
-pub Follows-too_long : (told : FilesTold) (name : List ℕ) → IsToldAnd (told name) (λ octets. most_octets < length octets) → Follows told (file_octets name) (λ _. Refuses (TooLong name))
-Follows-too_long told name long = by_told (told name) refl long where
-  by_told : (is : Told) → told name ≡ is → IsToldAnd is (λ octets. most_octets < length octets) → Follows told (file_octets name) (λ _. Refuses (TooLong name))
+pub Follows-too_long : (limits : Limits) (told : FilesTold) (name : List ℕ) → IsToldAnd (told name) (λ octets. most_octets limits < length octets) → Follows told (file_octets limits name) (λ _. Refuses (TooLong name))
+Follows-too_long limits told name long = by_told (told name) refl long where
+  by_told : (is : Told) → told name ≡ is → IsToldAnd is (λ octets. most_octets limits < length octets) → Follows told (file_octets limits name) (λ _. Refuses (TooLong name))
   by_told Untold here long = absurd long
   by_told NotHeld here long = absurd long
-  by_told (Holds octets) here long = follows_holds told name octets (Refuses (TooLong name)) here (grind (arith, nat_tests))
+  by_told (Holds octets) here long = follows_holds limits told name octets (Refuses (TooLong name)) here (grind (arith, nat_tests))
 
 -- the fault of a file that is too long
-pub Answers-too_long : (told : FilesTold) (name : List ℕ) (fault : LoadFault) → IsTooLongOf name fault → IsToldAnd (told name) (λ octets. most_octets < length octets) → (let answer : Result (List ℕ) LoadFault = Err fault in Answers told (file_octets name) answer)
-Answers-too_long told name NoMemory is long = tt
-Answers-too_long told name (TooLong file) is long = subst (λ n. Follows told (file_octets name) (λ _. Refuses (TooLong n))) (sym is) (Follows-too_long told name long)
-Answers-too_long told name (Read file) is long = absurd is
-Answers-too_long told name (Meta fault) is long = absurd is
-Answers-too_long told name (Text file line cause) is long = absurd is
-Answers-too_long told name (Rule file line cause) is long = absurd is
-Answers-too_long told name (ZoneTwice row) is long = absurd is
+pub Answers-too_long : (limits : Limits) (told : FilesTold) (name : List ℕ) (fault : LoadFault) → IsTooLongOf name fault → IsToldAnd (told name) (λ octets. most_octets limits < length octets) → (let answer : Result (List ℕ) LoadFault = Err fault in Answers told (file_octets limits name) answer)
+Answers-too_long limits told name NoMemory is long = tt
+Answers-too_long limits told name (TooLong file) is long = subst (λ n. Follows told (file_octets limits name) (λ _. Refuses (TooLong n))) (sym is) (Follows-too_long limits told name long)
+Answers-too_long limits told name (Read file) is long = absurd is
+Answers-too_long limits told name (Meta fault) is long = absurd is
+Answers-too_long limits told name (Text file line cause) is long = absurd is
+Answers-too_long limits told name (Rule file line cause) is long = absurd is
+Answers-too_long limits told name (ZoneTwice row) is long = absurd is
 
 -- the fault of a read that failed
-pub Answers-read_fault : (told : FilesTold) (name : List ℕ) (fault : LoadFault) → IsReadOf name fault → (let answer : Result (List ℕ) LoadFault = Err fault in Answers told (file_octets name) answer)
-Answers-read_fault told name NoMemory is = tt
-Answers-read_fault told name (Read file) is =
-    subst (λ n. Reaches told (file_octets name) n) (sym is) (λ other no_other gone. inl (ap (told_octets name) gone))
-Answers-read_fault told name (TooLong file) is = absurd is
-Answers-read_fault told name (Meta fault) is = absurd is
-Answers-read_fault told name (Text file line cause) is = absurd is
-Answers-read_fault told name (Rule file line cause) is = absurd is
-Answers-read_fault told name (ZoneTwice row) is = absurd is
+pub Answers-read_fault : (limits : Limits) (told : FilesTold) (name : List ℕ) (fault : LoadFault) → IsReadOf name fault → (let answer : Result (List ℕ) LoadFault = Err fault in Answers told (file_octets limits name) answer)
+Answers-read_fault limits told name NoMemory is = tt
+Answers-read_fault limits told name (Read file) is =
+    subst (λ n. Reaches told (file_octets limits name) n) (sym is) (λ other no_other gone. inl (ap (told_octets limits name) gone))
+Answers-read_fault limits told name (TooLong file) is = absurd is
+Answers-read_fault limits told name (Meta fault) is = absurd is
+Answers-read_fault limits told name (Text file line cause) is = absurd is
+Answers-read_fault limits told name (Rule file line cause) is = absurd is
+Answers-read_fault limits told name (ZoneTwice row) is = absurd is

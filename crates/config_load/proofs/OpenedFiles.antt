@@ -22,19 +22,19 @@ use Rattle.config_load.specs.ReadFiles.{read_files}
 use Rattle.config_load.specs.Reading.{Reads, Refuses, Unknown, ◌>>=◌, file_octets}
 use Rattle.config_load.specs.Sources.{ReadsOnly, ReadsFor, HasAnswered}
 use Rattle.config_load.specs.declared.fault.LoadFault.{LoadFault}
-use Rattle.config_load.specs.declared.left.Left.{Left}
+use Rattle.config_load.specs.declared.limits.Limits.{Limits}
 use Rattle.config_load.specs.declared.zone_files.ZoneFiles.{ZoneFiles}
 use Rattle.config_load.proofs.Follows.{Follows-same, Follows-then, Follows-bind, Answers-then, Answers-passed}
 use Rattle.config_load.proofs.Sources.{FailedAt-then, FailedAt-no_read, FailedAt-passed, ReadsFor-file, ReadsFor-then, ReadsFor-bind}
 use Rattle.config_load.proofs.Steps.{IsNoRead}
 
 -- the reading that goes on with the file of this name, behind those with these names and texts
-abbrev pub next_file : List ℕ → Labels → Left → ℕ → List (List ℕ) → List (List ℕ) → List ℕ → ByTold ZoneFiles
+abbrev pub next_file : List ℕ → Labels → Limits → ℕ → List (List ℕ) → List (List ℕ) → List ℕ → ByTold ZoneFiles
 next_file meta origin left times names texts name told =
-    file_octets name told >>= λ text. files_behind meta origin left times (names ++ name ∷ []) (texts ++ text ∷ []) told
+    file_octets left name told >>= λ text. files_behind meta origin left times (names ++ name ∷ []) (texts ++ text ∷ []) told
 
 -- the reading of a row's files begins with the row's file
-zone_files-first : (meta : List ℕ) (row : MetaRow) (left : Left) (told : FilesTold) → zone_files meta row left told ≡ next_file meta (unwrap_or row.origin []) left left.includes [] [] (joined meta row.file) told
+zone_files-first : (meta : List ℕ) (row : MetaRow) (left : Limits) (told : FilesTold) → zone_files meta row left told ≡ next_file meta (unwrap_or row.origin []) left left.includes [] [] (joined meta row.file) told
 unfolding zone_files
 zone_files-first meta row left told = refl
 
@@ -50,22 +50,22 @@ is_done (Include file) never = absurd (never file refl)
 is_done Done never = refl
 
 -- texts that ask for a file go on with it
-files_behind-asks : (meta : List ℕ) (origin : Labels) (left : Left) (times : ℕ) (names texts : List (List ℕ)) (file : List ℕ) (told : FilesTold) → zone_text origin left.records left.includes texts ≡ Err (Asks file) → files_behind meta origin left (suc times) names texts told ≡ next_file meta origin left times names texts (joined meta file) told
+files_behind-asks : (meta : List ℕ) (origin : Labels) (left : Limits) (times : ℕ) (names texts : List (List ℕ)) (file : List ℕ) (told : FilesTold) → zone_text origin left.records left.includes texts ≡ Err (Asks file) → files_behind meta origin left (suc times) names texts told ≡ next_file meta origin left times names texts (joined meta file) told
 unfolding files_behind
 files_behind-asks meta origin left times names texts file told asks =
-    ap (settled names (λ file. file_octets (joined meta file) told >>= λ text. files_behind meta origin left times (names ++ joined meta file ∷ []) (texts ++ text ∷ []) told)) asks
+    ap (settled names (λ file. file_octets left (joined meta file) told >>= λ text. files_behind meta origin left times (names ++ joined meta file ∷ []) (texts ++ text ∷ []) told)) asks
 
-files_behind-gives : (meta : List ℕ) (origin : Labels) (left : Left) (times : ℕ) (names texts : List (List ℕ)) (text : ZoneText) (told : FilesTold) → zone_text origin left.records left.includes texts ≡ Ok text → files_behind meta origin left times names texts told ≡ Reads (record { names = names; text = text })
+files_behind-gives : (meta : List ℕ) (origin : Labels) (left : Limits) (times : ℕ) (names texts : List (List ℕ)) (text : ZoneText) (told : FilesTold) → zone_text origin left.records left.includes texts ≡ Ok text → files_behind meta origin left times names texts told ≡ Reads (record { names = names; text = text })
 unfolding files_behind
 files_behind-gives meta origin left zero names texts text told gives = ap (settled names (λ file. Unknown (joined meta file))) gives
 files_behind-gives meta origin left (suc times) names texts text told gives =
-    ap (settled names (λ file. file_octets (joined meta file) told >>= λ text. files_behind meta origin left times (names ++ joined meta file ∷ []) (texts ++ text ∷ []) told)) gives
+    ap (settled names (λ file. file_octets left (joined meta file) told >>= λ text. files_behind meta origin left times (names ++ joined meta file ∷ []) (texts ++ text ∷ []) told)) gives
 
-files_behind-faulty : (meta : List ℕ) (origin : Labels) (left : Left) (times : ℕ) (names texts : List (List ℕ)) (fault : TextFault) (told : FilesTold) → zone_text origin left.records left.includes texts ≡ Err (Faulty fault) → files_behind meta origin left times names texts told ≡ Refuses (of_text names fault)
+files_behind-faulty : (meta : List ℕ) (origin : Labels) (left : Limits) (times : ℕ) (names texts : List (List ℕ)) (fault : TextFault) (told : FilesTold) → zone_text origin left.records left.includes texts ≡ Err (Faulty fault) → files_behind meta origin left times names texts told ≡ Refuses (of_text names fault)
 unfolding files_behind
 files_behind-faulty meta origin left zero names texts fault told faulty = ap (settled names (λ file. Unknown (joined meta file))) faulty
 files_behind-faulty meta origin left (suc times) names texts fault told faulty =
-    ap (settled names (λ file. file_octets (joined meta file) told >>= λ text. files_behind meta origin left times (names ++ joined meta file ∷ []) (texts ++ text ∷ []) told)) faulty
+    ap (settled names (λ file. file_octets left (joined meta file) told >>= λ text. files_behind meta origin left times (names ++ joined meta file ∷ []) (texts ++ text ∷ []) told)) faulty
 
 -- no read fails where texts are told
 read_files-no_read : (names : List (List ℕ)) (given : Result ZoneText TextFault) → IfErr (read_files names given) IsNoRead
@@ -74,7 +74,7 @@ read_files-no_read names (Err (text_faults.At file line cause)) = tt
 read_files-no_read names (Err text_faults.NoMemory) = tt
 
 -- what texts give that have ended
-Answers-ended : (meta : List ℕ) (origin : Labels) (left : Left) (times : ℕ) (names texts : List (List ℕ)) (told : FilesTold) (given : Result ZoneText TextFault) → AnswersOr (Faulty text_faults.NoMemory) (with_fault Faulty given) (zone_text origin left.records left.includes texts) → Answers told (files_behind meta origin left times names texts) (read_files names given)
+Answers-ended : (meta : List ℕ) (origin : Labels) (left : Limits) (times : ℕ) (names texts : List (List ℕ)) (told : FilesTold) (given : Result ZoneText TextFault) → AnswersOr (Faulty text_faults.NoMemory) (with_fault Faulty given) (zone_text origin left.records left.includes texts) → Answers told (files_behind meta origin left times names texts) (read_files names given)
 Answers-ended meta origin left times names texts told (Ok text) gives =
     Follows-same told (files_behind meta origin left times names texts) (λ _. Reads (record { names = names; text = text })) (λ other. files_behind-gives meta origin left times names texts text other gives)
 Answers-ended meta origin left times names texts told (Err (text_faults.At file line cause)) (inl none) = absurd cc
@@ -83,14 +83,14 @@ Answers-ended meta origin left times names texts told (Err (text_faults.At file 
 Answers-ended meta origin left times names texts told (Err text_faults.NoMemory) answered = tt
 
 -- a file that was read, behind those before
-Follows-read : (first : ByTold ZoneFiles) (old new : FilesTold) (meta : List ℕ) (origin : Labels) (left : Left) (times : ℕ) (names texts : List (List ℕ)) (name octets : List ℕ) → StaysTold old new → Follows old first (next_file meta origin left times names texts name) → Follows new (file_octets name) (λ _. Reads octets) → Follows new first (files_behind meta origin left times (names ++ name ∷ []) (texts ++ octets ∷ []))
+Follows-read : (first : ByTold ZoneFiles) (old new : FilesTold) (meta : List ℕ) (origin : Labels) (left : Limits) (times : ℕ) (names texts : List (List ℕ)) (name octets : List ℕ) → StaysTold old new → Follows old first (next_file meta origin left times names texts name) → Follows new (file_octets left name) (λ _. Reads octets) → Follows new first (files_behind meta origin left times (names ++ name ∷ []) (texts ++ octets ∷ []))
 Follows-read first old new meta origin left times names texts name octets stays so_far whole =
     Follows-then old new first (next_file meta origin left times names texts name) _ stays so_far
-    (Follows-bind new (file_octets name) (λ _. Reads octets) (λ told text. files_behind meta origin left times (names ++ name ∷ []) (texts ++ text ∷ []) told) whole)
+    (Follows-bind new (file_octets left name) (λ _. Reads octets) (λ told text. files_behind meta origin left times (names ++ name ∷ []) (texts ++ text ∷ []) told) whole)
 
 -- The files of a row's zone that were fed to a reader, in the order in which they were opened: these are their names, and
 -- this is asked behind them.
-pub record HasFedFiles (meta : List ℕ) (row : MetaRow) (left : Left) (told : FilesTold) (names : List (List ℕ)) (asked : AfterFile) (reader : Held) : Type 0 where
+pub record HasFedFiles (meta : List ℕ) (row : MetaRow) (left : Limits) (told : FilesTold) (names : List (List ℕ)) (asked : AfterFile) (reader : Held) : Type 0 where
   pub texts : List (List ℕ)
   pub times : ℕ
   pub few : times + length names ≡ left.includes + 1
@@ -100,7 +100,7 @@ pub record HasFedFiles (meta : List ℕ) (row : MetaRow) (left : Left) (told : F
   pub so_far : Follows told (zone_files meta row left) (files_behind meta (unwrap_or row.origin []) left times names texts)
 
 -- Behind the files with these names the file of this name is open, and the reader was fed nothing of it.
-pub record HasOpened (meta : List ℕ) (row : MetaRow) (left : Left) (told : FilesTold) (names : List (List ℕ)) (name : List ℕ) (reader : Held) : Type 0 where
+pub record HasOpened (meta : List ℕ) (row : MetaRow) (left : Limits) (told : FilesTold) (names : List (List ℕ)) (name : List ℕ) (reader : Held) : Type 0 where
   pub texts : List (List ℕ)
   pub times : ℕ
   pub few : times + length names ≡ left.includes
@@ -110,7 +110,7 @@ pub record HasOpened (meta : List ℕ) (row : MetaRow) (left : Left) (told : Fil
   pub stands : IsReaderOf reader (unwrap_or row.origin []) left.records left.includes texts []
   pub so_far : Follows told (zone_files meta row left) (next_file meta (unwrap_or row.origin []) left times names texts name)
 
-module _ (meta : List ℕ) (row : MetaRow) (left : Left) where
+module _ (meta : List ℕ) (row : MetaRow) (left : Limits) where
   -- the first file of a row that is opened is the row's zone file
   pub HasOpened-first : (told : FilesTold) (names : List (List ℕ)) (name : List ℕ) (reader : Held) → names ≡ [] → name ≡ joined meta row.file → reader.ended ≡ false → reader.fed ≡ 0 → IsReaderOf reader (unwrap_or row.origin []) left.records left.includes [] [] → HasOpened meta row left told names name reader
   HasOpened-first told names name reader empty is still_open none stands = subst (λ (names : List (List ℕ)). HasOpened meta row left told names name reader) (sym empty) (record {
@@ -182,7 +182,7 @@ module _ (meta : List ℕ) (row : MetaRow) (left : Left) where
 
   module _ (old new : FilesTold) (names : List (List ℕ)) (name : List ℕ) (reader : Held) where
     -- the open file is fed whole
-    pub HasFedFiles-more : (asked : AfterFile) (after : Held) → StaysTold old new → HasOpened meta row left old names name reader → HasFed new name reader asked after → HasFedFiles meta row left new (names ++ name ∷ []) asked after
+    pub HasFedFiles-more : (asked : AfterFile) (after : Held) → StaysTold old new → HasOpened meta row left old names name reader → HasFed left new name reader asked after → HasFedFiles meta row left new (names ++ name ∷ []) asked after
     HasFedFiles-more asked after stays opened fed =
         let ended = fed.ended (unwrap_or row.origin []) left.records left.includes opened.texts opened.stands in
         record {
@@ -199,13 +199,13 @@ module _ (meta : List ℕ) (row : MetaRow) (left : Left) where
     pub HasOpened-source : {before : FilesTold} {counts counts' counts'' : List ℕ → ℕ} → ReadsFor before old counts counts' (zone_files meta row left) → HasOpened meta row left old names name reader → ReadsOnly name old new counts' counts'' → ReadsFor before new counts counts'' (zone_files meta row left)
     HasOpened-source source opened only =
         ReadsFor-then {whole = zone_files meta row left} {rest = next_file meta (unwrap_or row.origin []) left opened.times names opened.texts name} opened.so_far source
-        (ReadsFor-bind (file_octets name) (λ told text. files_behind meta (unwrap_or row.origin []) left opened.times (names ++ name ∷ []) (opened.texts ++ text ∷ []) told) (ReadsFor-file only))
+        (ReadsFor-bind (file_octets left name) (λ told text. files_behind meta (unwrap_or row.origin []) left opened.times (names ++ name ∷ []) (opened.texts ++ text ∷ []) told) (ReadsFor-file left only))
 
     -- an open file that isn't read answers the reading of the row's files with its fault
-    pub HasAnswered-unread : {before : FilesTold} {counts counts' counts'' : List ℕ → ℕ} (fault : LoadFault) (result : Result ZoneFiles LoadFault) → ReadsFor before old counts counts' (zone_files meta row left) → HasOpened meta row left old names name reader → ReadsOnly name old new counts' counts'' → FailsToRead new name fault → (let answer : Result AfterFile LoadFault = Err fault in FailedAt counts' counts'' answer) → IsErrAnd result (λ passed. passed ≡ fault) → HasAnswered before new counts counts'' (zone_files meta row left) result
+    pub HasAnswered-unread : {before : FilesTold} {counts counts' counts'' : List ℕ → ℕ} (fault : LoadFault) (result : Result ZoneFiles LoadFault) → ReadsFor before old counts counts' (zone_files meta row left) → HasOpened meta row left old names name reader → ReadsOnly name old new counts' counts'' → FailsToRead left new name fault → (let answer : Result AfterFile LoadFault = Err fault in FailedAt counts' counts'' answer) → IsErrAnd result (λ passed. passed ≡ fault) → HasAnswered before new counts counts'' (zone_files meta row left) result
     HasAnswered-unread {counts = counts} {counts' = counts'} {counts'' = counts''} fault result source opened only fails failed is = record {
       answers = Answers-then old new (zone_files meta row left) (next_file meta (unwrap_or row.origin []) left opened.times names opened.texts name) result only.stays opened.so_far
-          (Answers-passed new (file_octets name) (λ told text. files_behind meta (unwrap_or row.origin []) left opened.times (names ++ name ∷ []) (opened.texts ++ text ∷ []) told) fault result is fails);
+          (Answers-passed new (file_octets left name) (λ told text. files_behind meta (unwrap_or row.origin []) left opened.times (names ++ name ∷ []) (opened.texts ++ text ∷ []) told) fault result is fails);
       cause = FailedAt-then counts counts' counts'' result source.never_fall (FailedAt-passed AfterFile counts' counts'' fault result is failed);
       source = HasOpened-source source opened only;
     }

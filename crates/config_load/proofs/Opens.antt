@@ -6,6 +6,7 @@ use Rattle.io_edges.specs.Files.{FilesTold, SameElsewhere, StaysTold}
 use Rattle.config_load.specs.Follows.{ByTold, StopsEarly, Follows, Reaches, OpensWhereItComes}
 use Rattle.config_load.specs.Load.{OpensNoOther, ComesToFile}
 use Rattle.config_load.specs.Reading.{Reading, Unknown, ◌>>=◌, file_octets, told_octets}
+use Rattle.config_load.specs.declared.limits.Limits.{Limits}
 use Rattle.config_load.proofs.Answered.{comes-reaches}
 use Rattle.config_load.proofs.Follows.{TellsNoOther-stays, StopsEarly-stays, Reaches-then, Reaches-bind}
 
@@ -14,12 +15,12 @@ pub SameElsewhere-then : (name : List ℕ) (first between last : FilesTold) → 
 SameElsewhere-then name first between last a b other apart = b other apart ∙ a other apart
 
 -- the reading of a file opens no file but this one
-pub Opens-file : (before after : FilesTold) (name : List ℕ) → SameElsewhere name before after → OpensWhereItComes before after (file_octets name)
-Opens-file before after name others file = by_test (pointwise nat_eq file name) refl where
-  by_test : (same : Bool) → pointwise nat_eq file name ≡ same → (after file ≡ before file) ⊎ Reaches after (file_octets name) file
+pub Opens-file : (limits : Limits) (before after : FilesTold) (name : List ℕ) → SameElsewhere name before after → OpensWhereItComes before after (file_octets limits name)
+Opens-file limits before after name others file = by_test (pointwise nat_eq file name) refl where
+  by_test : (same : Bool) → pointwise nat_eq file name ≡ same → (after file ≡ before file) ⊎ Reaches after (file_octets limits name) file
   by_test true same =
       let is : file ≡ name = (label_eq_decides file name).0 same in
-      inr (λ other no_other gone. inl (ap (told_octets name) (ap other (sym is) ∙ gone) ∙ ap Unknown (sym is)))
+      inr (λ other no_other gone. inl (ap (told_octets limits name) (ap other (sym is) ∙ gone) ∙ ap Unknown (sym is)))
   by_test false apart = inl (others file (λ is. let no : true ≡ false = sym ((label_eq_decides file name).1 is) ∙ apart in absurd cc))
 
 module _ {A : Type 0} where

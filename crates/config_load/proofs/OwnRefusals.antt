@@ -9,7 +9,7 @@ use Rattle.master_read.specs.declared.fault.TextFault.{TextFault}
 use Rattle.master_read.specs.declared.fault.TextFault.TheVariants as text_faults
 use Rattle.master_read.specs.declared.zone_text.ZoneText.{ZoneText}
 use Rattle.master_read.proofs.EntryFaults.{IsTextFault, IsUnread, texts_told}
-use Rattle.meta_read.specs.Metadata.{metadata_of}
+use Rattle.meta_read.specs.Metadata.{metadata_within}
 use Rattle.meta_read.specs.declared.fault.MetaFault.{MetaFault}
 use Rattle.meta_read.specs.declared.fault.MetaFault.TheVariants as meta_faults
 use Rattle.meta_read.specs.declared.meta.MetaRow.{MetaRow}
@@ -20,14 +20,15 @@ use Rattle.zone_rules.specs.ZoneOf.{zone_of}
 use Rattle.zone_rules.specs.declared.fault.RuleFault.{RuleFault}
 use Rattle.zone_rules.specs.declared.fault.RuleFault.TheVariants as rule_faults
 use Rattle.zone_rules.proofs.OwnFaults.{IsOwn as IsRuleFault, zone_own}
-use Rattle.config_load.specs.Conf.{settled, files_behind, zone_files, zone_read, with_row, with_rows, no_rows, metadata, conf}
+use Rattle.config_load.specs.Conf.{settled, files_behind, zone_files, zone_read, with_row, with_rows, no_rows, metadata, conf_within}
 use Rattle.config_load.specs.Faults.{of_metadata, of_text, of_rule}
 use Rattle.config_load.specs.Joined.{joined}
-use Rattle.config_load.specs.Reading.{Reading, Reads, Refuses, Misses, Unknown, ◌>>=◌, unless_refused, most_octets, told_octets, file_octets}
+use Rattle.config_load.specs.Limits.{most_octets}
+use Rattle.config_load.specs.Reading.{Reading, Reads, Refuses, Misses, Unknown, ◌>>=◌, unless_refused, told_octets, file_octets}
 use Rattle.config_load.specs.Servers.{given, has_zone}
 use Rattle.config_load.specs.declared.fault.LoadFault.{LoadFault}
 use Rattle.config_load.specs.declared.fault.LoadFault.TheVariants.{Read, TooLong, NoMemory}
-use Rattle.config_load.specs.declared.left.Left.{Left}
+use Rattle.config_load.specs.declared.limits.Limits.{Limits}
 use Rattle.config_load.specs.declared.rows.ReadRows.{ReadRows}
 use Rattle.config_load.specs.declared.zone_files.ZoneFiles.{ZoneFiles}
 
@@ -55,10 +56,10 @@ own_unless P told (Ok value) own tells = tt
 own_unless P told (Err fault) own tells = tells fault own
 
 -- the octets of a file
-octets_own : (name : List ℕ) (told : Told) → RefusesOwn (told_octets name told)
-octets_own name Untold = tt
-octets_own name NotHeld = tt
-octets_own name (Holds octets) = by (nat_le (length octets) most_octets) where
+octets_own : (limits : Limits) (name : List ℕ) (told : Told) → RefusesOwn (told_octets limits name told)
+octets_own limits name Untold = tt
+octets_own limits name NotHeld = tt
+octets_own limits name (Holds octets) = by (nat_le (length octets) (most_octets limits)) where
   by : (b : Bool) → RefusesOwn (cond b (Reads octets) (Refuses (TooLong name)))
   by true = tt
   by false = tt
@@ -73,19 +74,19 @@ settled_own names next (Ok text) told others = tt
 settled_own names next (Err (Faulty fault)) told others = text_own names fault told
 settled_own names next (Err (Asks file)) told others = others file
 
-files_own : (meta : List ℕ) (origin : Labels) (left : Left) (times : ℕ) (names texts : List (List ℕ)) (told : FilesTold) → RefusesOwn (files_behind meta origin left times names texts told)
+files_own : (meta : List ℕ) (origin : Labels) (left : Limits) (times : ℕ) (names texts : List (List ℕ)) (told : FilesTold) → RefusesOwn (files_behind meta origin left times names texts told)
 unfolding files_behind
 files_own meta origin left zero names texts told =
     settled_own names _ (zone_text origin left.records left.includes texts) (texts_told origin left.records left.includes texts) (λ file. tt)
 files_own meta origin left (suc times) names texts told =
     settled_own names _ (zone_text origin left.records left.includes texts) (texts_told origin left.records left.includes texts)
-    (λ file. own_then (file_octets (joined meta file) told) _ (octets_own (joined meta file) (told (joined meta file)))
+    (λ file. own_then (file_octets left (joined meta file) told) _ (octets_own left (joined meta file) (told (joined meta file)))
     (λ text. files_own meta origin left times (names ++ joined meta file ∷ []) (texts ++ text ∷ []) told))
 
-zone_files_own : (meta : List ℕ) (row : MetaRow) (left : Left) (told : FilesTold) → RefusesOwn (zone_files meta row left told)
+zone_files_own : (meta : List ℕ) (row : MetaRow) (left : Limits) (told : FilesTold) → RefusesOwn (zone_files meta row left told)
 unfolding zone_files
 zone_files_own meta row left told =
-    own_then (file_octets (joined meta row.file) told) _ (octets_own (joined meta row.file) (told (joined meta row.file)))
+    own_then (file_octets left (joined meta row.file) told) _ (octets_own left (joined meta row.file) (told (joined meta row.file)))
     (λ text. files_own meta (unwrap_or row.origin []) left left.includes (joined meta row.file ∷ []) (text ∷ []) told)
 
 -- a zone by its rules
@@ -93,7 +94,7 @@ rule_own : (names : List (List ℕ)) (fault : RuleFault) → IsRuleFault fault �
 rule_own names (rule_faults.At number line cause) own = tt
 rule_own names rule_faults.NoMemory own = own
 
-zone_read_own : (meta : List ℕ) (row : MetaRow) (left : Left) (told : FilesTold) → RefusesOwn (zone_read meta row left told)
+zone_read_own : (meta : List ℕ) (row : MetaRow) (left : Limits) (told : FilesTold) → RefusesOwn (zone_read meta row left told)
 unfolding zone_read
 zone_read_own meta row left told =
     own_then (zone_files meta row left told) _ (zone_files_own meta row left told)
@@ -129,18 +130,18 @@ meta_own meta_faults.NoTops own = tt
 meta_own meta_faults.TooManyRows own = tt
 meta_own meta_faults.NoMemory own = own
 
-metadata_read_own : (meta : List ℕ) (told : FilesTold) → RefusesOwn (metadata meta told)
+metadata_read_own : (limits : Limits) (meta : List ℕ) (told : FilesTold) → RefusesOwn (metadata limits meta told)
 unfolding metadata
-metadata_read_own meta told =
-    own_then (file_octets meta told) _ (octets_own meta (told meta))
-    (λ octets. own_unless IsMetadataFault of_metadata (metadata_of octets) (metadata_own octets) meta_own)
+metadata_read_own limits meta told =
+    own_then (file_octets limits meta told) _ (octets_own limits meta (told meta))
+    (λ octets. own_unless IsMetadataFault of_metadata (metadata_within limits.rows octets) (metadata_own limits.rows octets) meta_own)
 
 -- the refusal of a configuration's files says something of them
-pub conf_own : (meta : List ℕ) (told : FilesTold) → RefusesOwn (conf meta told)
-unfolding conf
-conf_own meta told =
-    own_then (metadata meta told) _ (metadata_read_own meta told)
-    (λ found. own_then (with_rows meta 1 found.rows no_rows told) _ (rows_own meta 1 found.rows no_rows told) (λ rows. tt))
+pub conf_own : (limits : Limits) (meta : List ℕ) (told : FilesTold) → RefusesOwn (conf_within limits meta told)
+unfolding conf_within
+conf_own limits meta told =
+    own_then (metadata limits meta told) _ (metadata_read_own limits meta told)
+    (λ found. own_then (with_rows meta 1 found.rows (no_rows limits) told) _ (rows_own meta 1 found.rows (no_rows limits) told) (λ rows. tt))
 
 -- a refusal that says something of the files is no failed read, nor `NoMemory`
 pub not-refused : {A : Type 0} (reading : Reading A) (fault : LoadFault) → RefusesOwn reading → (IsOwn fault → ⊥) → reading ≢ Refuses fault

@@ -4,14 +4,14 @@ use Rattle.dns_data.proofs.Answers.{if_err_answered, if_err_either}
 use Rattle.dns_data.specs.Answers.{AnswersOr, with_fault}
 use Rattle.dns_data.specs.Name.{Labels}
 use Rattle.io_edges.specs.Files.{FilesTold}
-use Rattle.meta_read.specs.Metadata.{metadata_of}
+use Rattle.meta_read.specs.Metadata.{metadata_within}
 use Rattle.meta_read.specs.declared.meta.Meta.{Meta as Metadata}
 use Rattle.meta_read.specs.declared.meta.MetaRow.{MetaRow}
 use Rattle.net_model.specs.declared.config.Config.{Config}
 use Rattle.net_model.specs.declared.config.Server.{Server}
 use Rattle.net_model.specs.declared.config.Zone.{Zone}
 use Rattle.zone_rules.specs.ZoneOf.{zone_of}
-use Rattle.config_load.specs.Conf.{conf, loaded, metadata, no_rows, with_row, with_rows, zone_files, zone_read, left_behind}
+use Rattle.config_load.specs.Conf.{conf_within, loaded_within, metadata, no_rows, with_row, with_rows, zone_files, zone_read, left_behind}
 use Rattle.config_load.specs.Faults.{of_metadata, of_rule}
 use Rattle.config_load.specs.Follows.{ByTold, Follows}
 use Rattle.config_load.specs.Reading.{Reading, Reads, Refuses, Misses, Unknown, ◌>>=◌, unless_refused, file_octets}
@@ -20,7 +20,7 @@ use Rattle.config_load.specs.Servers.{given, has_zone}
 use Rattle.config_load.specs.Sources.{ReadsFor, HasAnswered}
 use Rattle.config_load.specs.declared.fault.LoadFault.{LoadFault}
 use Rattle.config_load.specs.declared.fault.LoadFault.TheVariants.{NoMemory}
-use Rattle.config_load.specs.declared.left.Left.{Left}
+use Rattle.config_load.specs.declared.limits.Limits.{Limits}
 use Rattle.config_load.specs.declared.loaded.Loaded.{Loaded}
 use Rattle.config_load.specs.declared.rows.ReadRows.{ReadRows}
 use Rattle.config_load.specs.declared.zone.ReadZone.{ReadZone}
@@ -52,11 +52,11 @@ module _ {T E : Type 0} where
   err_same e = cc
 
 -- how the reading of a zone goes on behind its files
-abbrev behind_files : MetaRow → Left → FilesTold → ZoneFiles → Reading ReadZone
+abbrev behind_files : MetaRow → Limits → FilesTold → ZoneFiles → Reading ReadZone
 behind_files row left told files =
     unless_refused (of_rule files.names) (zone_of row.origin files.text.rrs) >>= λ zone. Reads (record { zone = zone; names = files.names; left = left_behind left files.text })
 
-module _ (meta : List ℕ) (row : MetaRow) (left : Left) where
+module _ (meta : List ℕ) (row : MetaRow) (left : Limits) where
   -- the fault of a row's files answers the reading of the row's zone
   pub HasAnswered-no_files : {told told' : FilesTold} {counts counts' : List ℕ → ℕ} (fault : LoadFault) (result : Result ReadZone LoadFault) → IsErrAnd result (λ passed. passed ≡ fault) → (let answer : Result ZoneFiles LoadFault = Err fault in HasAnswered told told' counts counts' (zone_files meta row left) answer) → HasAnswered told told' counts counts' (zone_read meta row left) result
   unfolding zone_read
@@ -72,7 +72,7 @@ module _ (meta : List ℕ) (row : MetaRow) (left : Left) where
       (HasAnswered-told told' counts' (of_rule read.names) (zone_of row.origin read.text.rrs) refused (IsNoRead-of_rule read.names) answered))
 
   -- a zone that the texts of a row's files give answers the reading of the row's zone
-  pub HasAnswered-zone : {told told' : FilesTold} {counts counts' : List ℕ → ℕ} (read : ZoneFiles) (zone : Zone) (behind : Left) → behind ≡ left_behind left read.text → (let answer : Result ZoneFiles LoadFault = Ok read in HasAnswered told told' counts counts' (zone_files meta row left) answer) → (let answer : Result Zone LoadFault = Ok zone in AnswersOr NoMemory answer (with_fault (of_rule read.names) (zone_of row.origin read.text.rrs))) → (let answer : Result ReadZone LoadFault = Ok (record { zone = zone; names = read.names; left = behind }) in HasAnswered told told' counts counts' (zone_read meta row left) answer)
+  pub HasAnswered-zone : {told told' : FilesTold} {counts counts' : List ℕ → ℕ} (read : ZoneFiles) (zone : Zone) (behind : Limits) → behind ≡ left_behind left read.text → (let answer : Result ZoneFiles LoadFault = Ok read in HasAnswered told told' counts counts' (zone_files meta row left) answer) → (let answer : Result Zone LoadFault = Ok zone in AnswersOr NoMemory answer (with_fault (of_rule read.names) (zone_of row.origin read.text.rrs))) → (let answer : Result ReadZone LoadFault = Ok (record { zone = zone; names = read.names; left = behind }) in HasAnswered told told' counts counts' (zone_read meta row left) answer)
   unfolding zone_read
   HasAnswered-zone {told' = told'} {counts' = counts'} read zone behind is whole answered =
       let given : Result Zone LoadFault = Ok zone in
@@ -81,7 +81,7 @@ module _ (meta : List ℕ) (row : MetaRow) (left : Left) where
       (HasAnswered-next (λ _. unless_refused (of_rule read.names) (zone_of row.origin read.text.rrs)) zone (λ _ zone. Reads (record { zone = zone; names = read.names; left = left_behind left read.text })) answer
       (HasAnswered-told told' counts' (of_rule read.names) (zone_of row.origin read.text.rrs) given (IsNoRead-of_rule read.names) answered)
       (HasAnswered-looked told' counts' (λ _. Reads (record { zone = zone; names = read.names; left = left_behind left read.text })) answer tt
-      (Follows-same told' (λ _. Reads (record { zone = zone; names = read.names; left = left_behind left read.text })) (λ _. Reads (record { zone = zone; names = read.names; left = behind })) (λ other. ap (λ (l : Left). Reads (record { zone = zone; names = read.names; left = l })) (sym is)))))
+      (Follows-same told' (λ _. Reads (record { zone = zone; names = read.names; left = left_behind left read.text })) (λ _. Reads (record { zone = zone; names = read.names; left = behind })) (λ other. ap (λ (l : Limits). Reads (record { zone = zone; names = read.names; left = l })) (sym is)))))
 
 -- how the reading of a row goes on behind its zone
 abbrev behind_zone : ℕ → MetaRow → ReadRows → FilesTold → ReadZone → Reading ReadRows
@@ -158,47 +158,47 @@ abbrev loaded_of : Metadata → ReadRows → Loaded
 loaded_of found rows = record { config = record { tops = found.tops; servers = rows.servers }; rows = rows.rows }
 
 -- how the reading of a configuration goes on behind the metadata
-abbrev behind_metadata : List ℕ → FilesTold → Metadata → Reading Loaded
-behind_metadata meta told found = with_rows meta 1 found.rows no_rows told >>= λ rows. Reads (loaded_of found rows)
+abbrev behind_metadata : Limits → List ℕ → FilesTold → Metadata → Reading Loaded
+behind_metadata limits meta told found = with_rows meta 1 found.rows (no_rows limits) told >>= λ rows. Reads (loaded_of found rows)
 
-module _ (meta : List ℕ) where
+module _ (limits : Limits) (meta : List ℕ) where
   -- the fault of a metadata file that isn't read answers the reading of the metadata
-  pub HasAnswered-no_octets : {told told' : FilesTold} {counts counts' : List ℕ → ℕ} (fault : LoadFault) (result : Result Metadata LoadFault) → IsErrAnd result (λ passed. passed ≡ fault) → (let answer : Result (List ℕ) LoadFault = Err fault in HasAnswered told told' counts counts' (file_octets meta) answer) → HasAnswered told told' counts counts' (metadata meta) result
+  pub HasAnswered-no_octets : {told told' : FilesTold} {counts counts' : List ℕ → ℕ} (fault : LoadFault) (result : Result Metadata LoadFault) → IsErrAnd result (λ passed. passed ≡ fault) → (let answer : Result (List ℕ) LoadFault = Err fault in HasAnswered told told' counts counts' (file_octets limits meta) answer) → HasAnswered told told' counts counts' (metadata limits meta) result
   unfolding metadata
-  HasAnswered-no_octets fault result is read = HasAnswered-passed (file_octets meta) (λ _ octets. unless_refused of_metadata (metadata_of octets)) fault result is read
+  HasAnswered-no_octets fault result is read = HasAnswered-passed (file_octets limits meta) (λ _ octets. unless_refused of_metadata (metadata_within limits.rows octets)) fault result is read
 
   -- what a metadata file's octets read as answers the reading of the metadata
-  pub HasAnswered-octets : {told told' : FilesTold} {counts counts' : List ℕ → ℕ} (octets : List ℕ) (result : Result Metadata LoadFault) → (let answer : Result (List ℕ) LoadFault = Ok octets in HasAnswered told told' counts counts' (file_octets meta) answer) → AnswersOr NoMemory result (with_fault of_metadata (metadata_of octets)) → HasAnswered told told' counts counts' (metadata meta) result
+  pub HasAnswered-octets : {told told' : FilesTold} {counts counts' : List ℕ → ℕ} (octets : List ℕ) (result : Result Metadata LoadFault) → (let answer : Result (List ℕ) LoadFault = Ok octets in HasAnswered told told' counts counts' (file_octets limits meta) answer) → AnswersOr NoMemory result (with_fault of_metadata (metadata_within limits.rows octets)) → HasAnswered told told' counts counts' (metadata limits meta) result
   unfolding metadata
   HasAnswered-octets {told' = told'} {counts' = counts'} octets result whole answered =
-      HasAnswered-next (file_octets meta) octets (λ _ octets. unless_refused of_metadata (metadata_of octets)) result whole
-      (HasAnswered-told told' counts' of_metadata (metadata_of octets) result IsNoRead-of_metadata answered)
+      HasAnswered-next (file_octets limits meta) octets (λ _ octets. unless_refused of_metadata (metadata_within limits.rows octets)) result whole
+      (HasAnswered-told told' counts' of_metadata (metadata_within limits.rows octets) result IsNoRead-of_metadata answered)
 
   -- the fault of metadata that don't read answers the reading of the configuration
-  pub HasAnswered-no_metadata : {told told' : FilesTold} {counts counts' : List ℕ → ℕ} (fault : LoadFault) (result : Result Loaded LoadFault) → IsErrAnd result (λ passed. passed ≡ fault) → (let answer : Result Metadata LoadFault = Err fault in HasAnswered told told' counts counts' (metadata meta) answer) → HasAnswered told told' counts counts' (loaded meta) result
-  unfolding loaded
-  HasAnswered-no_metadata fault result is read = HasAnswered-passed (metadata meta) (behind_metadata meta) fault result is read
+  pub HasAnswered-no_metadata : {told told' : FilesTold} {counts counts' : List ℕ → ℕ} (fault : LoadFault) (result : Result Loaded LoadFault) → IsErrAnd result (λ passed. passed ≡ fault) → (let answer : Result Metadata LoadFault = Err fault in HasAnswered told told' counts counts' (metadata limits meta) answer) → HasAnswered told told' counts counts' (loaded_within limits meta) result
+  unfolding loaded_within
+  HasAnswered-no_metadata fault result is read = HasAnswered-passed (metadata limits meta) (behind_metadata limits meta) fault result is read
 
   -- the fault of rows that don't read answers the reading of the configuration
-  pub HasAnswered-no_rows : {before between after : FilesTold} {counts counts' counts'' : List ℕ → ℕ} (found : Metadata) (fault : LoadFault) (result : Result Loaded LoadFault) → IsErrAnd result (λ passed. passed ≡ fault) → (let answer : Result Metadata LoadFault = Ok found in HasAnswered before between counts counts' (metadata meta) answer) → (let answer : Result ReadRows LoadFault = Err fault in HasAnswered between after counts' counts'' (with_rows meta 1 found.rows no_rows) answer) → HasAnswered before after counts counts'' (loaded meta) result
-  unfolding loaded
+  pub HasAnswered-no_rows : {before between after : FilesTold} {counts counts' counts'' : List ℕ → ℕ} (found : Metadata) (fault : LoadFault) (result : Result Loaded LoadFault) → IsErrAnd result (λ passed. passed ≡ fault) → (let answer : Result Metadata LoadFault = Ok found in HasAnswered before between counts counts' (metadata limits meta) answer) → (let answer : Result ReadRows LoadFault = Err fault in HasAnswered between after counts' counts'' (with_rows meta 1 found.rows (no_rows limits)) answer) → HasAnswered before after counts counts'' (loaded_within limits meta) result
+  unfolding loaded_within
   HasAnswered-no_rows found fault result is whole read =
-      HasAnswered-next (metadata meta) found (behind_metadata meta) result whole
-      (HasAnswered-passed (with_rows meta 1 found.rows no_rows) (λ _ rows. Reads (loaded_of found rows)) fault result is read)
+      HasAnswered-next (metadata limits meta) found (behind_metadata limits meta) result whole
+      (HasAnswered-passed (with_rows meta 1 found.rows (no_rows limits)) (λ _ rows. Reads (loaded_of found rows)) fault result is read)
 
   -- the metadata and the rows answer the reading of the configuration, with the rows
-  pub HasAnswered-loaded : {before between after : FilesTold} {counts counts' counts'' : List ℕ → ℕ} (found : Metadata) (rows : ReadRows) → (let answer : Result Metadata LoadFault = Ok found in HasAnswered before between counts counts' (metadata meta) answer) → (let answer : Result ReadRows LoadFault = Ok rows in HasAnswered between after counts' counts'' (with_rows meta 1 found.rows no_rows) answer) → (let answer : Result Loaded LoadFault = Ok (loaded_of found rows) in HasAnswered before after counts counts'' (loaded meta) answer)
-  unfolding loaded
+  pub HasAnswered-loaded : {before between after : FilesTold} {counts counts' counts'' : List ℕ → ℕ} (found : Metadata) (rows : ReadRows) → (let answer : Result Metadata LoadFault = Ok found in HasAnswered before between counts counts' (metadata limits meta) answer) → (let answer : Result ReadRows LoadFault = Ok rows in HasAnswered between after counts' counts'' (with_rows meta 1 found.rows (no_rows limits)) answer) → (let answer : Result Loaded LoadFault = Ok (loaded_of found rows) in HasAnswered before after counts counts'' (loaded_within limits meta) answer)
+  unfolding loaded_within
   HasAnswered-loaded {after = after} {counts'' = counts''} found rows whole all =
       let answer : Result Loaded LoadFault = Ok (loaded_of found rows) in
-      HasAnswered-next (metadata meta) found (behind_metadata meta) answer whole
-      (HasAnswered-next (with_rows meta 1 found.rows no_rows) rows (λ _ rows. Reads (loaded_of found rows)) answer all
+      HasAnswered-next (metadata limits meta) found (behind_metadata limits meta) answer whole
+      (HasAnswered-next (with_rows meta 1 found.rows (no_rows limits)) rows (λ _ rows. Reads (loaded_of found rows)) answer all
       (reads after counts'' (loaded_of found rows)))
 
   -- the configuration that is read is that of the configuration with its rows
-  pub conf-loaded : (told : FilesTold) → conf meta told ≡ (loaded meta told >>= λ all. Reads all.config)
-  unfolding conf loaded
-  conf-loaded told = by (metadata meta told) where
+  pub conf-loaded : (told : FilesTold) → conf_within limits meta told ≡ (loaded_within limits meta told >>= λ all. Reads all.config)
+  unfolding conf_within loaded_within
+  conf-loaded told = by (metadata limits meta told) where
     on : (found : Metadata) → (read : Reading ReadRows)
         → (read >>= λ rows. Reads (record { tops = found.tops; servers = rows.servers })) ≡ ((read >>= λ rows. Reads (loaded_of found rows)) >>= λ all. Reads all.config)
     on found (Reads rows) = refl
@@ -207,22 +207,22 @@ module _ (meta : List ℕ) where
     on found (Unknown file) = refl
 
     by : (read : Reading Metadata)
-        → (read >>= λ found. with_rows meta 1 found.rows no_rows told >>= λ rows. Reads (record { tops = found.tops; servers = rows.servers }))
-        ≡ ((read >>= behind_metadata meta told) >>= λ all. Reads all.config)
-    by (Reads found) = on found (with_rows meta 1 found.rows no_rows told)
+        → (read >>= λ found. with_rows meta 1 found.rows (no_rows limits) told >>= λ rows. Reads (record { tops = found.tops; servers = rows.servers }))
+        ≡ ((read >>= behind_metadata limits meta told) >>= λ all. Reads all.config)
+    by (Reads found) = on found (with_rows meta 1 found.rows (no_rows limits) told)
     by (Refuses fault) = refl
     by (Misses file) = refl
     by (Unknown file) = refl
 
   -- the fault of the configuration with its rows answers the reading of the configuration
-  pub HasAnswered-no_config : {told told' : FilesTold} {counts counts' : List ℕ → ℕ} (fault : LoadFault) (result : Result Config LoadFault) → IsErrAnd result (λ passed. passed ≡ fault) → (let answer : Result Loaded LoadFault = Err fault in HasAnswered told told' counts counts' (loaded meta) answer) → HasAnswered told told' counts counts' (conf meta) result
+  pub HasAnswered-no_config : {told told' : FilesTold} {counts counts' : List ℕ → ℕ} (fault : LoadFault) (result : Result Config LoadFault) → IsErrAnd result (λ passed. passed ≡ fault) → (let answer : Result Loaded LoadFault = Err fault in HasAnswered told told' counts counts' (loaded_within limits meta) answer) → HasAnswered told told' counts counts' (conf_within limits meta) result
   HasAnswered-no_config {told} {told'} {counts} {counts'} fault result is read =
       subst (λ (reading : ByTold Config). HasAnswered told told' counts counts' reading result) (λ i t. sym (conf-loaded t) i)
-      (HasAnswered-passed (loaded meta) (λ _ all. Reads all.config) fault result is read)
+      (HasAnswered-passed (loaded_within limits meta) (λ _ all. Reads all.config) fault result is read)
 
   -- what answers the reading of the configuration with the rows answers that of the configuration alone
-  pub HasAnswered-config : {told told' : FilesTold} {counts counts' : List ℕ → ℕ} (all : Loaded) → (let answer : Result Loaded LoadFault = Ok all in HasAnswered told told' counts counts' (loaded meta) answer) → (let answer : Result Config LoadFault = Ok all.config in HasAnswered told told' counts counts' (conf meta) answer)
+  pub HasAnswered-config : {told told' : FilesTold} {counts counts' : List ℕ → ℕ} (all : Loaded) → (let answer : Result Loaded LoadFault = Ok all in HasAnswered told told' counts counts' (loaded_within limits meta) answer) → (let answer : Result Config LoadFault = Ok all.config in HasAnswered told told' counts counts' (conf_within limits meta) answer)
   HasAnswered-config {told} {told'} {counts} {counts'} all read =
       let answer : Result Config LoadFault = Ok all.config in
       subst (λ (reading : ByTold Config). HasAnswered told told' counts counts' reading answer) (λ i t. sym (conf-loaded t) i)
-      (HasAnswered-next (loaded meta) all (λ _ all. Reads all.config) answer read (reads told' counts' all.config))
+      (HasAnswered-next (loaded_within limits meta) all (λ _ all. Reads all.config) answer read (reads told' counts' all.config))

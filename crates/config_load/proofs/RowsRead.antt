@@ -10,15 +10,19 @@ use Rattle.meta_read.specs.declared.meta.Meta.{Meta as Metadata}
 use Rattle.meta_read.specs.declared.meta.MetaRow.{MetaRow}
 use Rattle.net_model.specs.declared.config.Server.{Server}
 use Rattle.net_model.specs.declared.config.Zone.{Zone}
-use Rattle.config_load.specs.Conf.{loaded, metadata, no_rows, row_files, with_row, with_rows, zone_read}
+use Rattle.config_load.specs.Conf.{left_behind, loaded_within, metadata, no_rows, row_files, with_row, with_rows, zone_files, zone_read}
+use Rattle.config_load.specs.Faults.{of_rule}
 use Rattle.config_load.specs.Reading.{Reading, Reads, Refuses, Misses, Unknown, ◌>>=◌, unless_refused}
 use Rattle.config_load.specs.Servers.{given, has_zone, with_zone}
 use Rattle.config_load.specs.declared.fault.LoadFault.{LoadFault}
 use Rattle.config_load.specs.declared.fault.LoadFault.TheVariants.{ZoneTwice}
+use Rattle.config_load.specs.declared.limits.Limits.{Limits}
 use Rattle.config_load.specs.declared.loaded.Loaded.{Loaded}
 use Rattle.config_load.specs.declared.loaded.RowFiles.{RowFiles}
 use Rattle.config_load.specs.declared.rows.ReadRows.{ReadRows}
 use Rattle.config_load.specs.declared.zone.ReadZone.{ReadZone}
+use Rattle.config_load.specs.declared.zone_files.ZoneFiles.{ZoneFiles}
+use Rattle.zone_rules.specs.ZoneOf.{zone_of}
 use Rattle.config_load.specs.RowZones.{HoldsRow, RowsHaveZones}
 use Rattle.config_load.proofs.ZonesGiven.{from_more, held_in, held_more, none_held}
 
@@ -29,6 +33,13 @@ read_on (Reads one) next value is = (one, refl, is)
 read_on (Refuses fault) next value is = absurd cc
 read_on (Misses file) next value is = absurd cc
 read_on (Unknown file) next value is = absurd cc
+
+-- how the reading of a zone goes on behind its files, and behind its rules
+abbrev behind_rules : Limits → ZoneFiles → Zone → Reading ReadZone
+behind_rules left files zone = Reads (record { zone = zone; names = files.names; left = left_behind left files.text })
+
+abbrev behind_files : MetaRow → Limits → ZoneFiles → Reading ReadZone
+behind_files row left files = unless_refused (of_rule files.names) (zone_of row.origin files.text.rrs) >>= behind_rules left files
 
 -- how the reading goes on behind the zone of a row, and behind the servers that have it
 abbrev behind_servers : MetaRow → ReadRows → ReadZone → List Server → Reading ReadRows
@@ -42,12 +53,12 @@ behind_zone number row rows read =
 abbrev behind_rows : Metadata → ReadRows → Reading Loaded
 behind_rows found rows = Reads (record { config = record { tops = found.tops; servers = rows.servers }; rows = rows.rows })
 
-module _ (meta : List ℕ) (told : FilesTold) where
+module _ (limits : Limits) (meta : List ℕ) (told : FilesTold) where
   -- so far rows and zones stand so
   abbrev Stand : List Labels → ReadRows → Type 0
-  Stand tops read = RowsHaveZones meta told (record { config = record { tops = tops; servers = read.servers }; rows = read.rows })
+  Stand tops read = RowsHaveZones limits meta told (record { config = record { tops = tops; servers = read.servers }; rows = read.rows })
 
-  module _ (tops : List Labels) (rows : ReadRows) (stand : Stand tops rows) (row : MetaRow) (read : ReadZone)
+  module _ (tops : List Labels) (rows : ReadRows) (as_long : rows.left.octets ≡ limits.octets) (stand : Stand tops rows) (row : MetaRow) (read : ReadZone)
       (reads : zone_read meta row rows.left told ≡ Reads read) (new : has_zone row.server read.zone.origin rows.servers ≡ false) where
     abbrev servers' : List Server
     servers' = with_zone row.server read.zone rows.servers
@@ -85,10 +96,10 @@ module _ (meta : List ℕ) (told : FilesTold) where
               elim (Contains-append_cases rows.rows (more ∷ []) other has) [
                 | inl before ↦
                     let old = stand.rows other before in
-                    record { given = old.given; left = old.left; read = old.read; reads = old.reads; is = old.is; held = stays other.server other.origin old.read.zone old.held }
+                    record { given = old.given; left = old.left; as_long = old.as_long; read = old.read; reads = old.reads; is = old.is; held = stays other.server other.origin old.read.zone old.held }
                 | inr last ↦
                     elim (first_or_later more [] other last) [
-                      | inl same ↦ subst (HoldsRow meta told (record { tops = tops; servers = servers' })) same (record { given = row; left = rows.left; read = read; reads = reads; is = refl; held = there })
+                      | inl same ↦ subst (HoldsRow limits meta told (record { tops = tops; servers = servers' })) same (record { given = row; left = rows.left; as_long = as_long; read = read; reads = reads; is = refl; held = there })
                       | inr never ↦ absurd (none_in_nil other never)
                     ]
               ];
@@ -122,8 +133,21 @@ module _ (meta : List ℕ) (told : FilesTold) where
               absurd cc);
         }
 
+  -- what is left when a zone was read allows files as long as before
+  left_as_long : (row : MetaRow) (left : Limits) (read : ReadZone) → zone_read meta row left told ≡ Reads read → read.left.octets ≡ left.octets
+  unfolding zone_read
+  left_as_long row left read is =
+      let files = read_on (zone_files meta row left told) (behind_files row left) read is in
+      let zone = read_on (unless_refused (of_rule files.0.names) (zone_of row.origin files.0.text.rrs)) (behind_rules left files.0) read files.2 in
+      let last : record { zone = zone.0; names = files.0.names; left = left_behind left files.0.text } ≡ read = cc in
+      ap (λ (r : ReadZone). r.left.octets) (sym last)
+
+  -- the rows so far stand so, and what they left allows files as long as at first
+  abbrev StandOn : List Labels → ReadRows → Type 0
+  StandOn tops rows = (rows.left.octets ≡ limits.octets) × Stand tops rows
+
   -- one row more
-  row_stands : (tops : List Labels) (number : ℕ) (row : MetaRow) (rows after : ReadRows) → Stand tops rows → with_row meta number row rows told ≡ Reads after → Stand tops after
+  row_stands : (tops : List Labels) (number : ℕ) (row : MetaRow) (rows after : ReadRows) → StandOn tops rows → with_row meta number row rows told ≡ Reads after → StandOn tops after
   unfolding with_row
   row_stands tops number row rows after stand is =
       let zone = read_on (zone_read meta row rows.left told) (behind_zone number row rows) after is in
@@ -132,37 +156,42 @@ module _ (meta : List ℕ) (told : FilesTold) where
     where
       by : (read : ReadZone) → zone_read meta row rows.left told ≡ Reads read → (servers : List Server) → (b : Bool) → has_zone row.server read.zone.origin rows.servers ≡ b
           → unless_refused (λ fault. fault) (cond b (Err (ZoneTwice number)) (Ok (with_zone row.server read.zone rows.servers))) ≡ Reads servers
-          → Reads (record { left = read.left; servers = servers; rows = rows.rows ++ row_files row.server read ∷ [] }) ≡ Reads after → Stand tops after
+          → Reads (record { left = read.left; servers = servers; rows = rows.rows ++ row_files row.server read ∷ [] }) ≡ Reads after → StandOn tops after
       by read reads servers true had got made = absurd cc
       by read reads servers false new got made =
           let are : with_zone row.server read.zone rows.servers ≡ servers = cc in
           let last : record { left = read.left; servers = servers; rows = rows.rows ++ row_files row.server read ∷ [] } ≡ after = cc in
-          subst (Stand tops) last
-          (subst (λ (all : List Server). Stand tops (record { left = read.left; servers = all; rows = rows.rows ++ row_files row.server read ∷ [] })) are
-          (one_more tops rows stand row read reads new))
+          subst (StandOn tops) last (
+            left_as_long row rows.left read reads ∙ stand.0,
+            subst (λ (all : List Server). Stand tops (record { left = read.left; servers = all; rows = rows.rows ++ row_files row.server read ∷ [] })) are
+                (one_more tops rows stand.0 stand.1 row read reads new),
+          )
 
   -- and the rows behind them
-  rows_stand : (tops : List Labels) (number : ℕ) (more : List MetaRow) (rows after : ReadRows) → Stand tops rows → with_rows meta number more rows told ≡ Reads after → Stand tops after
+  rows_stand : (tops : List Labels) (number : ℕ) (more : List MetaRow) (rows after : ReadRows) → StandOn tops rows → with_rows meta number more rows told ≡ Reads after → StandOn tops after
   unfolding with_rows
-  rows_stand tops number [] rows after stand is = let same : rows ≡ after = cc in subst (Stand tops) same stand
+  rows_stand tops number [] rows after stand is = let same : rows ≡ after = cc in subst (StandOn tops) same stand
   rows_stand tops number (row ∷ more) rows after stand is =
       let next = read_on (with_row meta number row rows told) (λ next. with_rows meta (number + 1) more next told) after is in
       rows_stand tops (number + 1) more next.0 after (row_stands tops number row rows next.0 stand next.1) next.2
 
   -- no row and no zone
-  none_stand : (tops : List Labels) → Stand tops no_rows
-  none_stand tops = record {
-    rows = λ row has. absurd (none_in_nil row has);
-    found = λ server zone has among. absurd (none_in_nil server has);
-    zones = λ server zone has among. absurd (none_in_nil server has);
-    once = λ i j d before within. absurd (omega arith);
-  }
+  none_stand : (tops : List Labels) → StandOn tops (no_rows limits)
+  none_stand tops = (
+    refl,
+    record {
+      rows = λ row has. absurd (none_in_nil row has);
+      found = λ server zone has among. absurd (none_in_nil server has);
+      zones = λ server zone has among. absurd (none_in_nil server has);
+      once = λ i j d before within. absurd (omega arith);
+    },
+  )
 
   -- in all that the files give, each row has its zone, and each zone its row
-  pub rows_read : (all : Loaded) → loaded meta told ≡ Reads all → RowsHaveZones meta told all
-  unfolding loaded
+  pub rows_read : (all : Loaded) → loaded_within limits meta told ≡ Reads all → RowsHaveZones limits meta told all
+  unfolding loaded_within
   rows_read all is =
-      let found = read_on (metadata meta told) (λ found. with_rows meta 1 found.rows no_rows told >>= behind_rows found) all is in
-      let rows = read_on (with_rows meta 1 found.0.rows no_rows told) (behind_rows found.0) all found.2 in
+      let found = read_on (metadata limits meta told) (λ found. with_rows meta 1 found.rows (no_rows limits) told >>= behind_rows found) all is in
+      let rows = read_on (with_rows meta 1 found.0.rows (no_rows limits) told) (behind_rows found.0) all found.2 in
       let last : record { config = record { tops = found.0.tops; servers = rows.0.servers }; rows = rows.0.rows } ≡ all = cc in
-      subst (RowsHaveZones meta told) last (rows_stand found.0.tops 1 found.0.rows no_rows rows.0 (none_stand found.0.tops) rows.1)
+      subst (RowsHaveZones limits meta told) last (rows_stand found.0.tops 1 found.0.rows (no_rows limits) rows.0 (none_stand found.0.tops) rows.1).1

@@ -10,10 +10,12 @@ use Rattle.io_edges.specs.Files.{FilesTold, Told, Untold, NotHeld, Holds, IsTold
 use Rattle.config_load.specs.Faults.{FailedAt, IsReadOf, IsTooLongOf}
 use Rattle.config_load.specs.Fed.{FailsToRead}
 use Rattle.config_load.specs.Follows.{ByTold, Follows, Answers}
-use Rattle.config_load.specs.Reading.{Reading, Reads, ◌>>=◌, unless_refused, file_octets, most_octets}
+use Rattle.config_load.specs.Limits.{most_octets}
+use Rattle.config_load.specs.Reading.{Reading, Reads, ◌>>=◌, unless_refused, file_octets}
 use Rattle.config_load.specs.Sources.{ReadsOnly, ReadsFor, HasAnswered}
 use Rattle.config_load.specs.declared.fault.LoadFault.{LoadFault}
 use Rattle.config_load.specs.declared.fault.LoadFault.TheVariants.{Read, TooLong, Meta, Text, Rule, ZoneTwice, NoMemory}
+use Rattle.config_load.specs.declared.limits.Limits.{Limits}
 use Rattle.config_load.proofs.Follows.{Follows-whole, Follows-bind, Answers-then, Answers-passed, Answers-read_fault, Answers-too_long}
 use Rattle.config_load.proofs.Opens.{SameElsewhere-then, Opens-file, Opens-then, Opens-bind}
 use Rattle.config_load.proofs.Steps.{IsNoRead, Answers-free, Answers-told, Answers-wanting, FailedAt-wanting}
@@ -173,51 +175,51 @@ module _ {A B : Type 0} where
       HasAnswered-then {whole = λ t. first t >>= next t} {rest = λ t. next t value} (Follows-bind between first (λ _. Reads value) next a.answers) (ReadsFor-bind first next a.source) b
 
 -- if only one file was read, no file was read but those to which the reading of that file comes
-pub ReadsFor-file : {name : List ℕ} {told told' : FilesTold} {counts counts' : List ℕ → ℕ} → ReadsOnly name told told' counts counts' → ReadsFor told told' counts counts' (file_octets name)
-ReadsFor-file {name} {told} {told'} only = record {
+pub ReadsFor-file : (limits : Limits) {name : List ℕ} {told told' : FilesTold} {counts counts' : List ℕ → ℕ} → ReadsOnly name told told' counts counts' → ReadsFor told told' counts counts' (file_octets limits name)
+ReadsFor-file limits {name} {told} {told'} only = record {
   stays = only.stays;
-  opens = Opens-file told told' name only.others;
+  opens = Opens-file limits told told' name only.others;
   never_fall = only.never_fall;
 }
 
-module _ {name : List ℕ} {told told' : FilesTold} {counts counts' : List ℕ → ℕ} where
+module _ (limits : Limits) {name : List ℕ} {told told' : FilesTold} {counts counts' : List ℕ → ℕ} where
   -- the octets of a file that was read to its end answer the reading of the file
-  pub HasAnswered-whole : (octets : List ℕ) → ReadsOnly name told told' counts counts' → told' name ≡ Holds octets → length octets ≤ most_octets → (let answer : Result (List ℕ) LoadFault = Ok octets in HasAnswered told told' counts counts' (file_octets name) answer)
+  pub HasAnswered-whole : (octets : List ℕ) → ReadsOnly name told told' counts counts' → told' name ≡ Holds octets → length octets ≤ most_octets limits → (let answer : Result (List ℕ) LoadFault = Ok octets in HasAnswered told told' counts counts' (file_octets limits name) answer)
   HasAnswered-whole octets only here short = record {
-    answers = Follows-whole told' name octets here short;
+    answers = Follows-whole limits told' name octets here short;
     cause = tt;
-    source = ReadsFor-file only;
+    source = ReadsFor-file limits only;
   }
 
   -- the reading of a file that is too long is answered with that fault
-  pub HasAnswered-too_long : (fault : LoadFault) → ReadsOnly name told told' counts counts' → IsTooLongOf name fault → IsToldAnd (told' name) (λ octets. most_octets < length octets) → (let answer : Result (List ℕ) LoadFault = Err fault in HasAnswered told told' counts counts' (file_octets name) answer)
+  pub HasAnswered-too_long : (fault : LoadFault) → ReadsOnly name told told' counts counts' → IsTooLongOf name fault → IsToldAnd (told' name) (λ octets. most_octets limits < length octets) → (let answer : Result (List ℕ) LoadFault = Err fault in HasAnswered told told' counts counts' (file_octets limits name) answer)
   HasAnswered-too_long fault only is long = record {
-    answers = Answers-too_long told' name fault is long;
+    answers = Answers-too_long limits told' name fault is long;
     cause = FailedAt-too_long (List ℕ) counts counts' name fault is;
-    source = ReadsFor-file only;
+    source = ReadsFor-file limits only;
   }
 
 -- the reading of a file of which a read failed, behind others that didn't, is answered with that fault
-pub HasAnswered-broken : {name : List ℕ} {before between after : FilesTold} {counts counts' counts'' : List ℕ → ℕ} (fault : LoadFault) (result : Result (List ℕ) LoadFault) → ReadsOnly name before between counts counts' → ReadsOnly name between after counts' counts'' → IsReadOf name fault → (let answer : Result ℕ LoadFault = Err fault in FailedAt counts' counts'' answer) → IsErrAnd result (λ passed. passed ≡ fault) → HasAnswered before after counts counts'' (file_octets name) result
-HasAnswered-broken fault (Ok value) so_far only broken failed is = absurd is
-HasAnswered-broken {name = name} {after = after} {counts = counts} {counts' = counts'} {counts'' = counts''} fault (Err passed) so_far only broken failed is = record {
-  answers = Answers-read_fault after name passed (subst (IsReadOf name) (sym is) broken);
+pub HasAnswered-broken : (limits : Limits) {name : List ℕ} {before between after : FilesTold} {counts counts' counts'' : List ℕ → ℕ} (fault : LoadFault) (result : Result (List ℕ) LoadFault) → ReadsOnly name before between counts counts' → ReadsOnly name between after counts' counts'' → IsReadOf name fault → (let answer : Result ℕ LoadFault = Err fault in FailedAt counts' counts'' answer) → IsErrAnd result (λ passed. passed ≡ fault) → HasAnswered before after counts counts'' (file_octets limits name) result
+HasAnswered-broken limits fault (Ok value) so_far only broken failed is = absurd is
+HasAnswered-broken limits {name = name} {after = after} {counts = counts} {counts' = counts'} {counts'' = counts''} fault (Err passed) so_far only broken failed is = record {
+  answers = Answers-read_fault limits after name passed (subst (IsReadOf name) (sym is) broken);
   cause = FailedAt-then {A = List ℕ} counts counts' counts'' (Err passed) so_far.never_fall (FailedAt-passed ℕ {B = List ℕ} counts' counts'' fault (Err passed) is failed);
-  source = ReadsFor-file (ReadsOnly-then so_far only);
+  source = ReadsFor-file limits (ReadsOnly-then so_far only);
 }
 
 module _ {T : Type 0} where
   -- a file of which a read failed isn't read
-  pub FailsToRead-passed : (told : FilesTold) (name : List ℕ) (fault : LoadFault) (result : Result T LoadFault) → IsReadOf name fault → IsErrAnd result (λ passed. passed ≡ fault) → IfErr result (FailsToRead told name)
-  FailsToRead-passed told name fault (Ok value) broken is = absurd is
-  FailsToRead-passed told name fault (Err passed) broken is = Answers-read_fault told name passed (subst (IsReadOf name) (sym is) broken)
+  pub FailsToRead-passed : (limits : Limits) (told : FilesTold) (name : List ℕ) (fault : LoadFault) (result : Result T LoadFault) → IsReadOf name fault → IsErrAnd result (λ passed. passed ≡ fault) → IfErr result (FailsToRead limits told name)
+  FailsToRead-passed limits told name fault (Ok value) broken is = absurd is
+  FailsToRead-passed limits told name fault (Err passed) broken is = Answers-read_fault limits told name passed (subst (IsReadOf name) (sym is) broken)
 
   -- a file isn't read by who passes on why it isn't
-  pub FailsToRead-again : (told : FilesTold) (name : List ℕ) (fault : LoadFault) (result : Result T LoadFault) → FailsToRead told name fault → IsErrAnd result (λ passed. passed ≡ fault) → IfErr result (FailsToRead told name)
-  FailsToRead-again told name fault (Ok value) fails is = absurd is
-  FailsToRead-again told name fault (Err passed) fails is = subst (FailsToRead told name) (sym is) fails
+  pub FailsToRead-again : (limits : Limits) (told : FilesTold) (name : List ℕ) (fault : LoadFault) (result : Result T LoadFault) → FailsToRead limits told name fault → IsErrAnd result (λ passed. passed ≡ fault) → IfErr result (FailsToRead limits told name)
+  FailsToRead-again limits told name fault (Ok value) fails is = absurd is
+  FailsToRead-again limits told name fault (Err passed) fails is = subst (FailsToRead limits told name) (sym is) fails
 
   -- `NoMemory` may stand for any failure
-  pub FailsToRead-wanting : (told : FilesTold) (name : List ℕ) (result : Result T LoadFault) → IsErrAnd result (λ fault. fault ≡ NoMemory) → IfErr result (FailsToRead told name)
-  FailsToRead-wanting told name (Ok value) wants = absurd wants
-  FailsToRead-wanting told name (Err fault) wants = Answers-free told (file_octets name) fault wants
+  pub FailsToRead-wanting : (limits : Limits) (told : FilesTold) (name : List ℕ) (result : Result T LoadFault) → IsErrAnd result (λ fault. fault ≡ NoMemory) → IfErr result (FailsToRead limits told name)
+  FailsToRead-wanting limits told name (Ok value) wants = absurd wants
+  FailsToRead-wanting limits told name (Err fault) wants = Answers-free told (file_octets limits name) fault wants

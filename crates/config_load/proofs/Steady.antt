@@ -7,10 +7,10 @@ use Rattle.dns_data.specs.Name.{Labels}
 use Rattle.io_edges.specs.Files.{FilesTold, Told, Untold, NotHeld, Holds, StaysTold}
 use Rattle.master_read.specs.ZoneText.{Unread, Faulty, Asks, zone_text}
 use Rattle.master_read.specs.declared.zone_text.ZoneText.{ZoneText}
-use Rattle.meta_read.specs.Metadata.{metadata_of}
+use Rattle.meta_read.specs.Metadata.{metadata_within}
 use Rattle.meta_read.specs.declared.meta.MetaRow.{MetaRow}
 use Rattle.zone_rules.specs.ZoneOf.{zone_of}
-use Rattle.config_load.specs.Conf.{settled, files_behind, zone_files, zone_read, left_behind, row_files, with_row, with_rows, no_rows, metadata, conf, loaded}
+use Rattle.config_load.specs.Conf.{settled, files_behind, zone_files, zone_read, left_behind, row_files, with_row, with_rows, no_rows, metadata, conf_within, loaded_within}
 use Rattle.config_load.specs.Faults.{of_metadata, of_rule}
 use Rattle.config_load.specs.Follows.{ByTold, StopsEarly}
 use Rattle.config_load.specs.Joined.{joined}
@@ -19,7 +19,7 @@ use Rattle.config_load.specs.Reading.{Reading, Reads, Refuses, Misses, Unknown, 
 use Rattle.config_load.specs.Servers.{given}
 use Rattle.config_load.specs.declared.fault.LoadFault.{LoadFault}
 use Rattle.config_load.specs.declared.fault.LoadFault.TheVariants as faults
-use Rattle.config_load.specs.declared.left.Left.{Left}
+use Rattle.config_load.specs.declared.limits.Limits.{Limits}
 use Rattle.config_load.specs.declared.rows.ReadRows.{ReadRows}
 use Rattle.config_load.specs.declared.zone_files.ZoneFiles.{ZoneFiles}
 use Rattle.config_load.proofs.Answered.{without-here, without-only}
@@ -27,16 +27,16 @@ use Rattle.config_load.proofs.Answered.{without-here, without-only}
 -- ---- each reading is steady
 
 -- the reading of a file is steady
-pub file_is_steady : (name : List ℕ) → IsSteady (file_octets name)
-file_is_steady name told later stays = by (stays name) where
-  on : told name ≡ Untold → (is : Told) → later name ≡ is → (file_octets name later ≡ file_octets name told) ⊎ StopsEarly later told (file_octets name told)
-  on untold Untold here = inl (ap (told_octets name) (here ∙ sym untold))
-  on untold NotHeld here = inr (name, ap (told_octets name) untold, untold, λ gone. let no : NotHeld ≡ Untold = sym here ∙ gone in absurd cc)
-  on untold (Holds octets) here = inr (name, ap (told_octets name) untold, untold, λ gone. let no : Holds octets ≡ Untold = sym here ∙ gone in absurd cc)
+pub file_is_steady : (limits : Limits) (name : List ℕ) → IsSteady (file_octets limits name)
+file_is_steady limits name told later stays = by (stays name) where
+  on : told name ≡ Untold → (is : Told) → later name ≡ is → (file_octets limits name later ≡ file_octets limits name told) ⊎ StopsEarly later told (file_octets limits name told)
+  on untold Untold here = inl (ap (told_octets limits name) (here ∙ sym untold))
+  on untold NotHeld here = inr (name, ap (told_octets limits name) untold, untold, λ gone. let no : NotHeld ≡ Untold = sym here ∙ gone in absurd cc)
+  on untold (Holds octets) here = inr (name, ap (told_octets limits name) untold, untold, λ gone. let no : Holds octets ≡ Untold = sym here ∙ gone in absurd cc)
 
-  by : (told name ≡ Untold) ⊎ (later name ≡ told name) → (file_octets name later ≡ file_octets name told) ⊎ StopsEarly later told (file_octets name told)
+  by : (told name ≡ Untold) ⊎ (later name ≡ told name) → (file_octets limits name later ≡ file_octets limits name told) ⊎ StopsEarly later told (file_octets limits name told)
   by (inl untold) = on untold (later name) refl
-  by (inr same) = inl (ap (told_octets name) same)
+  by (inr same) = inl (ap (told_octets limits name) same)
 
 module _ {A : Type 0} where
   -- a reading that reads no file is steady
@@ -63,22 +63,22 @@ settled_is_steady names next each (Ok text) = known_is_steady _
 settled_is_steady names next each (Err (Faulty fault)) = known_is_steady _
 settled_is_steady names next each (Err (Asks file)) = each file
 
-files_are_steady : (meta : List ℕ) (origin : Labels) (left : Left) (times : ℕ) (names texts : List (List ℕ)) → IsSteady (files_behind meta origin left times names texts)
+files_are_steady : (meta : List ℕ) (origin : Labels) (left : Limits) (times : ℕ) (names texts : List (List ℕ)) → IsSteady (files_behind meta origin left times names texts)
 unfolding files_behind
 files_are_steady meta origin left zero names texts = λ told later stays. inl refl
 files_are_steady meta origin left (suc times) names texts =
-    settled_is_steady names (λ told file. file_octets (joined meta file) told >>= λ text. files_behind meta origin left times (names ++ joined meta file ∷ []) (texts ++ text ∷ []) told)
-    (λ file. bind_is_steady (file_octets (joined meta file)) (λ told text. files_behind meta origin left times (names ++ joined meta file ∷ []) (texts ++ text ∷ []) told)
-    (file_is_steady (joined meta file)) (λ text. files_are_steady meta origin left times (names ++ joined meta file ∷ []) (texts ++ text ∷ [])))
+    settled_is_steady names (λ told file. file_octets left (joined meta file) told >>= λ text. files_behind meta origin left times (names ++ joined meta file ∷ []) (texts ++ text ∷ []) told)
+    (λ file. bind_is_steady (file_octets left (joined meta file)) (λ told text. files_behind meta origin left times (names ++ joined meta file ∷ []) (texts ++ text ∷ []) told)
+    (file_is_steady left (joined meta file)) (λ text. files_are_steady meta origin left times (names ++ joined meta file ∷ []) (texts ++ text ∷ [])))
     (zone_text origin left.records left.includes texts)
 
-zone_files_are_steady : (meta : List ℕ) (row : MetaRow) (left : Left) → IsSteady (zone_files meta row left)
+zone_files_are_steady : (meta : List ℕ) (row : MetaRow) (left : Limits) → IsSteady (zone_files meta row left)
 unfolding zone_files
 zone_files_are_steady meta row left =
-    bind_is_steady (file_octets (joined meta row.file)) (λ told text. files_behind meta (unwrap_or row.origin []) left left.includes (joined meta row.file ∷ []) (text ∷ []) told)
-    (file_is_steady (joined meta row.file)) (λ text. files_are_steady meta (unwrap_or row.origin []) left left.includes (joined meta row.file ∷ []) (text ∷ []))
+    bind_is_steady (file_octets left (joined meta row.file)) (λ told text. files_behind meta (unwrap_or row.origin []) left left.includes (joined meta row.file ∷ []) (text ∷ []) told)
+    (file_is_steady left (joined meta row.file)) (λ text. files_are_steady meta (unwrap_or row.origin []) left left.includes (joined meta row.file ∷ []) (text ∷ []))
 
-zone_is_steady : (meta : List ℕ) (row : MetaRow) (left : Left) → IsSteady (zone_read meta row left)
+zone_is_steady : (meta : List ℕ) (row : MetaRow) (left : Limits) → IsSteady (zone_read meta row left)
 unfolding zone_read
 zone_is_steady meta row left =
     bind_is_steady (zone_files meta row left)
@@ -99,28 +99,28 @@ rows_are_steady meta number (row ∷ more) rows =
     bind_is_steady (with_row meta number row rows) (λ told rows. with_rows meta (number + 1) more rows told)
     (row_is_steady meta number row rows) (λ rows. rows_are_steady meta (number + 1) more rows)
 
-metadata_are_steady : (meta : List ℕ) → IsSteady (metadata meta)
+metadata_are_steady : (limits : Limits) (meta : List ℕ) → IsSteady (metadata limits meta)
 unfolding metadata
-metadata_are_steady meta =
-    bind_is_steady (file_octets meta) (λ told octets. unless_refused of_metadata (metadata_of octets)) (file_is_steady meta) (λ octets. known_is_steady _)
+metadata_are_steady limits meta =
+    bind_is_steady (file_octets limits meta) (λ told octets. unless_refused of_metadata (metadata_within limits.rows octets)) (file_is_steady limits meta) (λ octets. known_is_steady _)
 
 -- the reading of the configuration of a metadata file is steady
-pub conf_is_steady : (meta : List ℕ) → IsSteady (conf meta)
-unfolding conf
-conf_is_steady meta =
-    bind_is_steady (metadata meta) (λ told found. with_rows meta 1 found.rows no_rows told >>= λ rows. Reads (record { tops = found.tops; servers = rows.servers }))
-    (metadata_are_steady meta)
-    (λ found. bind_is_steady (with_rows meta 1 found.rows no_rows) (λ told rows. Reads (record { tops = found.tops; servers = rows.servers }))
-    (rows_are_steady meta 1 found.rows no_rows) (λ rows. known_is_steady _))
+pub conf_is_steady : (limits : Limits) (meta : List ℕ) → IsSteady (conf_within limits meta)
+unfolding conf_within
+conf_is_steady limits meta =
+    bind_is_steady (metadata limits meta) (λ told found. with_rows meta 1 found.rows (no_rows limits) told >>= λ rows. Reads (record { tops = found.tops; servers = rows.servers }))
+    (metadata_are_steady limits meta)
+    (λ found. bind_is_steady (with_rows meta 1 found.rows (no_rows limits)) (λ told rows. Reads (record { tops = found.tops; servers = rows.servers }))
+    (rows_are_steady meta 1 found.rows (no_rows limits)) (λ rows. known_is_steady _))
 
 -- the reading of the configuration of a metadata file, with the names of its files, is steady
-pub loaded_is_steady : (meta : List ℕ) → IsSteady (loaded meta)
-unfolding loaded
-loaded_is_steady meta =
-    bind_is_steady (metadata meta) (λ told found. with_rows meta 1 found.rows no_rows told >>= λ rows. Reads (record { config = record { tops = found.tops; servers = rows.servers }; rows = rows.rows }))
-    (metadata_are_steady meta)
-    (λ found. bind_is_steady (with_rows meta 1 found.rows no_rows) (λ told rows. Reads (record { config = record { tops = found.tops; servers = rows.servers }; rows = rows.rows }))
-    (rows_are_steady meta 1 found.rows no_rows) (λ rows. known_is_steady _))
+pub loaded_is_steady : (limits : Limits) (meta : List ℕ) → IsSteady (loaded_within limits meta)
+unfolding loaded_within
+loaded_is_steady limits meta =
+    bind_is_steady (metadata limits meta) (λ told found. with_rows meta 1 found.rows (no_rows limits) told >>= λ rows. Reads (record { config = record { tops = found.tops; servers = rows.servers }; rows = rows.rows }))
+    (metadata_are_steady limits meta)
+    (λ found. bind_is_steady (with_rows meta 1 found.rows (no_rows limits)) (λ told rows. Reads (record { config = record { tops = found.tops; servers = rows.servers }; rows = rows.rows }))
+    (rows_are_steady meta 1 found.rows (no_rows limits)) (λ rows. known_is_steady _))
 
 -- ---- by what tells more
 

@@ -1,18 +1,20 @@
 -- Values of the definitions that were worked out by hand.
 use Rattle.std.proofs.Common.{◌≡◌, List, [], ◌∷◌, codes, Ok, Err, refl}
 use Rattle.dns_data.specs.Name.{Labels}
-use Rattle.io_edges.specs.Files.{Untold, NotHeld}
+use Rattle.io_edges.specs.Files.{Untold, NotHeld, Holds}
 use Rattle.master_read.specs.declared.fault.TextCause.TheVariants as causes
 use Rattle.meta_read.specs.declared.fault.MetaFault.TheVariants as meta_faults
 use Rattle.net_model.specs.declared.config.Server.{Server}
 use Rattle.net_model.specs.declared.config.Zone.{Zone}
-use Rattle.config_load.specs.Conf.{conf, metadata}
+use Rattle.config_load.specs.Conf.{conf, conf_within, metadata}
 use Rattle.config_load.specs.Faults.{name_numbered}
 use Rattle.config_load.specs.Joined.{joined}
-use Rattle.config_load.specs.Reading.{Misses, Unknown}
+use Rattle.config_load.specs.Limits.{most_octets, usual_limits}
+use Rattle.config_load.specs.Reading.{Misses, Reads, Refuses, Unknown, file_octets}
 use Rattle.config_load.specs.Refusal.{file_of, line_told, code_of, fields_line}
+use Rattle.config_load.specs.FileName.{shown_file}
 use Rattle.config_load.specs.Servers.{given}
-use Rattle.config_load.specs.declared.fault.LoadFault.TheVariants.{Meta, Text, ZoneTwice}
+use Rattle.config_load.specs.declared.fault.LoadFault.TheVariants.{Meta, Text, TooLong, ZoneTwice}
 
 -- Names are joined to the folder of the metadata.
 
@@ -63,6 +65,10 @@ twice = refl
 row_line : fields_line (file_of (codes "m.json") (ZoneTwice 2)) (codes "2") (code_of (ZoneTwice 2)) ≡ codes "m.json:2: zone-twice\n"
 row_line = refl
 
+-- control characters in the name of a file: a line feed, escape and delete
+shown_name : shown_file (97 ∷ 10 ∷ 27 ∷ 92 ∷ 127 ∷ []) ≡ codes "a\\n\\027\\\\127"
+shown_name = refl
+
 file_line : file_of (codes "m.json") (Text (codes "sub.zone") 12 causes.NotIn) ≡ codes "sub.zone"
 file_line = refl
 
@@ -75,9 +81,20 @@ meta_row = refl
 -- The metadata file comes first.
 
 not_held : conf (codes "m.json") (λ _. NotHeld) ≡ Misses (codes "m.json")
-unfolding conf metadata
+unfolding conf_within metadata
 not_held = refl
 
 not_told : conf (codes "m.json") (λ _. Untold) ≡ Unknown (codes "m.json")
-unfolding conf metadata
+unfolding conf_within metadata
 not_told = refl
+
+-- A file may have as many octets as the limits allow, and no more than are counted.
+
+long_enough : file_octets (record usual_limits { octets = 3 }) (codes "f") (λ _. Holds (codes "abc")) ≡ Reads (codes "abc")
+long_enough = refl
+
+too_long : file_octets (record usual_limits { octets = 3 }) (codes "f") (λ _. Holds (codes "abcd")) ≡ Refuses (TooLong (codes "f"))
+too_long = refl
+
+all_that_are_counted : most_octets (record usual_limits { octets = 4294967295 }) ≡ 4294950912
+all_that_are_counted = refl

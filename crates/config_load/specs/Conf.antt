@@ -5,29 +5,26 @@ use Rattle.dns_data.specs.Name.{Labels}
 use Rattle.io_edges.specs.Files.{FilesTold}
 use Rattle.master_read.specs.ZoneText.{Unread, Faulty, Asks, zone_text}
 use Rattle.master_read.specs.declared.zone_text.ZoneText.{ZoneText}
-use Rattle.meta_read.specs.Metadata.{metadata_of}
+use Rattle.meta_read.specs.Metadata.{metadata_within}
 use Rattle.meta_read.specs.declared.meta.Meta.{Meta as Metadata}
 use Rattle.meta_read.specs.declared.meta.MetaRow.{MetaRow}
 use Rattle.net_model.specs.declared.config.Config.{Config}
 use Rattle.zone_rules.specs.ZoneOf.{zone_of}
 use Rattle.config_load.specs.Faults.{of_metadata, of_text, of_rule}
 use Rattle.config_load.specs.Joined.{joined}
+use Rattle.config_load.specs.Limits.{usual_limits}
 use Rattle.config_load.specs.Reading.{Reading, Reads, Refuses, Unknown, ◌>>=◌, unless_refused, file_octets}
 use Rattle.config_load.specs.Servers.{given}
-use Rattle.config_load.specs.declared.left.Left.{Left}
+use Rattle.config_load.specs.declared.limits.Limits.{Limits}
 use Rattle.config_load.specs.declared.loaded.Loaded.{Loaded}
 use Rattle.config_load.specs.declared.loaded.RowFiles.{RowFiles}
 use Rattle.config_load.specs.declared.rows.ReadRows.{ReadRows}
 use Rattle.config_load.specs.declared.zone.ReadZone.{ReadZone}
 use Rattle.config_load.specs.declared.zone_files.ZoneFiles.{ZoneFiles}
 
--- how many records the zone files may have in all, and how many files may be included in all
-abbrev pub everything_left : Left
-everything_left = record { records = 1000000; includes = 1000 }
-
 -- what a zone leaves for the next ones
-abbrev pub left_behind : Left → ZoneText → Left
-left_behind left text = record { records = left.records - text.seen; includes = left.includes - text.included }
+abbrev pub left_behind : Limits → ZoneText → Limits
+left_behind left text = record left { records = left.records - text.seen; includes = left.includes - text.included }
 
 -- what the texts of a zone's files with these names give: their records, their first fault, or what follows with the
 -- file that they ask for
@@ -39,31 +36,31 @@ settled names next (Err (Asks file)) = next file
 -- The files of a zone, of which those with these names and texts were opened, in order; so many may be opened still.
 -- In the first equation no file is asked for, since texts ask for no more files than may be included
 -- (`asks_within_the_limit` of master_read).
-unfoldable pub files_behind : List ℕ → Labels → Left → ℕ → List (List ℕ) → List (List ℕ) → FilesTold → Reading ZoneFiles
+unfoldable pub files_behind : List ℕ → Labels → Limits → ℕ → List (List ℕ) → List (List ℕ) → FilesTold → Reading ZoneFiles
 files_behind meta origin left zero names texts told =
     settled names (λ file. Unknown (joined meta file)) (zone_text origin left.records left.includes texts)
 files_behind meta origin left (suc times) names texts told =
     settled names
-    (λ file. file_octets (joined meta file) told >>= λ text.
+    (λ file. file_octets left (joined meta file) told >>= λ text.
     files_behind meta origin left times (names ++ joined meta file ∷ []) (texts ++ text ∷ []) told)
     (zone_text origin left.records left.includes texts)
 
 -- the files of a row's zone: its file, and those that are included
-unfoldable pub zone_files : List ℕ → MetaRow → Left → FilesTold → Reading ZoneFiles
+unfoldable pub zone_files : List ℕ → MetaRow → Limits → FilesTold → Reading ZoneFiles
 zone_files meta row left told = do
-  text ← file_octets (joined meta row.file) told
+  text ← file_octets left (joined meta row.file) told
   files_behind meta (unwrap_or row.origin []) left left.includes (joined meta row.file ∷ []) (text ∷ []) told
 
 -- the zone of a row's files, with their names, and what it leaves
-unfoldable pub zone_read : List ℕ → MetaRow → Left → FilesTold → Reading ReadZone
+unfoldable pub zone_read : List ℕ → MetaRow → Limits → FilesTold → Reading ReadZone
 zone_read meta row left told = do
   files ← zone_files meta row left told
   zone ← unless_refused (of_rule files.names) (zone_of row.origin files.text.rrs)
   Reads (record { zone = zone; names = files.names; left = left_behind left files.text })
 
 -- the rows before the first one was read: none
-abbrev pub no_rows : ReadRows
-no_rows = record { left = everything_left; servers = []; rows = [] }
+abbrev pub no_rows : Limits → ReadRows
+no_rows limits = record { left = limits; servers = []; rows = [] }
 
 -- what is told of a row whose zone was read
 abbrev pub row_files : Labels → ReadZone → RowFiles
@@ -82,21 +79,25 @@ with_rows meta number [] rows told = Reads rows
 with_rows meta number (row ∷ more) rows told = with_row meta number row rows told >>= λ rows. with_rows meta (number + 1) more rows told
 
 -- the metadata that the octets of the metadata file give, or the refusal
-unfoldable pub metadata : List ℕ → FilesTold → Reading Metadata
-metadata meta told = file_octets meta told >>= λ octets. unless_refused of_metadata (metadata_of octets)
+unfoldable pub metadata : Limits → List ℕ → FilesTold → Reading Metadata
+metadata limits meta told = file_octets limits meta told >>= λ octets. unless_refused of_metadata (metadata_within limits.rows octets)
 
--- what the files give for a metadata file's name
-unfoldable pub conf : List ℕ → FilesTold → Reading Config
-conf meta told = do
-  found ← metadata meta told
-  rows ← with_rows meta 1 found.rows no_rows told
+-- what the files give for a metadata file's name, within the limits
+unfoldable pub conf_within : Limits → List ℕ → FilesTold → Reading Config
+conf_within limits meta told = do
+  found ← metadata limits meta told
+  rows ← with_rows meta 1 found.rows (no_rows limits) told
   Reads (record { tops = found.tops; servers = rows.servers })
 
--- what the files give for a metadata file's name, with each row's server, origin and names of files
-unfoldable pub loaded : List ℕ → FilesTold → Reading Loaded
-loaded meta told = do
-  found ← metadata meta told
-  rows ← with_rows meta 1 found.rows no_rows told
+-- what the files give for a metadata file's name, within the usual limits
+abbrev pub conf : List ℕ → FilesTold → Reading Config
+conf = conf_within usual_limits
+
+-- what the files give for a metadata file's name, within the limits, with each row's server, origin and names of files
+unfoldable pub loaded_within : Limits → List ℕ → FilesTold → Reading Loaded
+loaded_within limits meta told = do
+  found ← metadata limits meta told
+  rows ← with_rows meta 1 found.rows (no_rows limits) told
   Reads (record { config = record { tops = found.tops; servers = rows.servers }; rows = rows.rows })
 
 -- the configuration of what was read, without the rows

@@ -8,6 +8,7 @@ use Rattle.master_read.specs.declared.asked.AfterFile.{AfterFile}
 use Rattle.config_load.specs.Follows.{Follows, Answers}
 use Rattle.config_load.specs.Reading.{Reads, file_octets}
 use Rattle.config_load.specs.declared.fault.LoadFault.{LoadFault}
+use Rattle.config_load.specs.declared.limits.Limits.{Limits}
 
 -- a reader that was fed the first text of its open file is, as it is now, one that was fed the second
 abbrev pub IsFed : Held → List ℕ → Held → List ℕ → Type 0
@@ -22,11 +23,11 @@ HasEndedFile old octets asked new =
     → (asked ≡ asked_by (zone_text origin room includes (ended ++ octets ∷ []))) × GoesOn asked new origin room includes (ended ++ octets ∷ [])
 
 -- the octets of this file were fed to a reader, as those of its open file, which ended with them
-pub record HasFed (told : FilesTold) (name : List ℕ) (old : Held) (asked : AfterFile) (new : Held) : Type 0 where
+pub record HasFed (limits : Limits) (told : FilesTold) (name : List ℕ) (old : Held) (asked : AfterFile) (new : Held) : Type 0 where
   pub octets : List ℕ
-  pub whole : Follows told (file_octets name) (λ _. Reads octets)
+  pub whole : Follows told (file_octets limits name) (λ _. Reads octets)
   pub ended : HasEndedFile old octets asked new
 
 -- the file isn't read, with this fault
-abbrev pub FailsToRead : FilesTold → List ℕ → LoadFault → Type 0
-FailsToRead told name fault = let answer : Result (List ℕ) LoadFault = Err fault in Answers told (file_octets name) answer
+abbrev pub FailsToRead : Limits → FilesTold → List ℕ → LoadFault → Type 0
+FailsToRead limits told name fault = let answer : Result (List ℕ) LoadFault = Err fault in Answers told (file_octets limits name) answer

@@ -9,6 +9,7 @@ pub use Rattle.zone_rules.specs.Codes as RuleCodes
 pub use Rattle.zone_rules.specs.ZoneOf
 pub mod Faults
 pub mod Joined
+pub mod Limits
 pub mod Reading
 pub mod Servers
 pub mod Conf
@@ -21,3 +22,4 @@ pub mod Fed
 pub mod ReadFiles
 pub mod Hosted
 pub mod RowZones
+pub mod FileName

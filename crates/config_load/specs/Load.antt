@@ -17,13 +17,13 @@ without file told name = if pointwise nat_eq name file then Untold else told nam
 abbrev pub ComesToFile : {T : Type 0} → (FilesTold → Reading T) → FilesTold → List ℕ → Type 0
 ComesToFile reading told file = reading (without file told) ≡ Unknown file
 
--- the reading of a metadata file and of the files that it names comes to this file
-abbrev pub ReadingComesTo : List ℕ → FilesTold → List ℕ → Type 0
-ReadingComesTo meta told file = ComesToFile (conf meta) told file
+-- no count of a file rose to which this reading comes
+abbrev pub NoFailureIn : {T : Type 0} → (FilesTold → Reading T) → FilesTold → (List ℕ → ℕ) → (List ℕ → ℕ) → Type 0
+NoFailureIn reading told before after = (file : List ℕ) → ComesToFile reading told file → Rose (before file) (after file) → ⊥
 
--- no count of a file rose to which the reading comes
+-- no count of a file rose to which the reading of a metadata file and of the files that it names comes
 abbrev pub NoReadFailed : List ℕ → FilesTold → (List ℕ → ℕ) → (List ℕ → ℕ) → Type 0
-NoReadFailed meta told before after = (file : List ℕ) → ReadingComesTo meta told file → Rose (before file) (after file) → ⊥
+NoReadFailed meta = NoFailureIn (conf meta)
 
 -- an answer is what the reading gives: what was read, or the refusal; a failed read and `NoMemory` are free
 abbrev pub Gives : {T : Type 0} → Reading T → Result T LoadFault → Type 0

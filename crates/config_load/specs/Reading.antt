@@ -1,8 +1,10 @@
 -- What is read of files, by what is told of them.
 use Rattle.std.specs.Prelude.{ℕ, nat_le, List, length, Result, Ok, Err, if◌then◌else◌}
 use Rattle.io_edges.specs.Files.{FilesTold, Told, Untold, NotHeld, Holds}
+use Rattle.config_load.specs.Limits.{most_octets}
 use Rattle.config_load.specs.declared.fault.LoadFault.{LoadFault}
 use Rattle.config_load.specs.declared.fault.LoadFault.TheVariants.{TooLong}
+use Rattle.config_load.specs.declared.limits.Limits.{Limits}
 
 -- what files give: what is read of them, the first refusal, or the first file that the reading comes to and that isn't
 -- held, or of which nothing is told
@@ -29,16 +31,12 @@ abbrev pub unless_refused : {T E : Type 0} → (E → LoadFault) → Result T E 
 unless_refused told (Ok value) = Reads value
 unless_refused told (Err fault) = Refuses (told fault)
 
--- how many octets a file may have
-abbrev pub most_octets : ℕ
-most_octets = 16777216
+-- the octets that are told, unless they are more than the limits allow
+abbrev pub told_octets : Limits → List ℕ → Told → Reading (List ℕ)
+told_octets limits name Untold = Unknown name
+told_octets limits name NotHeld = Misses name
+told_octets limits name (Holds octets) = if nat_le (length octets) (most_octets limits) then Reads octets else Refuses (TooLong name)
 
--- the octets that are told, unless they are too many
-abbrev pub told_octets : List ℕ → Told → Reading (List ℕ)
-told_octets name Untold = Unknown name
-told_octets name NotHeld = Misses name
-told_octets name (Holds octets) = if nat_le (length octets) most_octets then Reads octets else Refuses (TooLong name)
-
--- the octets of the file of this name
-abbrev pub file_octets : List ℕ → FilesTold → Reading (List ℕ)
-file_octets name told = told_octets name (told name)
+-- the octets of the file of this name, if it may be so long
+abbrev pub file_octets : Limits → List ℕ → FilesTold → Reading (List ℕ)
+file_octets limits name told = told_octets limits name (told name)

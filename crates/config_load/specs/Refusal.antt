@@ -6,6 +6,7 @@ use Rattle.meta_read.specs.Codes.{meta_code}
 use Rattle.meta_read.specs.declared.fault.MetaFault.{MetaFault}
 use Rattle.meta_read.specs.declared.fault.MetaFault.TheVariants as meta_faults
 use Rattle.zone_rules.specs.Codes.{rule_code}
+use Rattle.config_load.specs.FileName.{shown_file}
 use Rattle.config_load.specs.declared.fault.LoadFault.{LoadFault}
 use Rattle.config_load.specs.declared.fault.LoadFault.TheVariants.{Read, TooLong, Meta, Text, Rule, ZoneTwice, NoMemory}
 
@@ -47,7 +48,7 @@ code_of NoMemory = codes "no-memory"
 
 -- a file, a line in it and a code, as a line on err
 abbrev pub fields_line : List ℕ → List ℕ → List ℕ → List ℕ
-fields_line file line code = file ++ (codes ":" ++ (line ++ (codes ": " ++ (code ++ codes "\n"))))
+fields_line file line code = shown_file file ++ (codes ":" ++ (line ++ (codes ": " ++ (code ++ codes "\n"))))
 
 -- the line on err of a refusal
 abbrev pub refusal_line : List ℕ → LoadFault → List ℕ

@@ -9,15 +9,17 @@ use Rattle.net_model.specs.declared.config.Zone.{Zone}
 use Rattle.net_model.specs.Nearest.{held_zone}
 use Rattle.config_load.specs.Conf.{row_files, zone_read}
 use Rattle.config_load.specs.Reading.{Reads}
-use Rattle.config_load.specs.declared.left.Left.{Left}
+use Rattle.config_load.specs.declared.limits.Limits.{Limits}
 use Rattle.config_load.specs.declared.loaded.Loaded.{Loaded}
 use Rattle.config_load.specs.declared.loaded.RowFiles.{RowFiles}
 use Rattle.config_load.specs.declared.zone.ReadZone.{ReadZone}
 
--- the row has the server, the origin and the files of a zone that was read, and its server is found to hold that zone
-pub record HoldsRow (meta : List ℕ) (told : FilesTold) (config : Config) (row : RowFiles) : Type 0 where
+-- the row has the server, the origin and the files of a zone that was read, of files no longer than the limits allow, and
+-- its server is found to hold that zone
+pub record HoldsRow (limits : Limits) (meta : List ℕ) (told : FilesTold) (config : Config) (row : RowFiles) : Type 0 where
   pub given : MetaRow
-  pub left : Left
+  pub left : Limits
+  pub as_long : left.octets ≡ limits.octets
   pub read : ReadZone
   pub reads : zone_read meta given left told ≡ Reads read
   pub is : row ≡ row_files given.server read
@@ -29,8 +31,8 @@ pub record IsRowOf (server : Server) (zone : Zone) (row : RowFiles) : Type 0 whe
   pub origin_is : row.origin ≡ zone.origin
 
 -- each row has its zone; each zone of a server is found there, and is that of a row; and no two rows are those of one zone
-pub record RowsHaveZones (meta : List ℕ) (told : FilesTold) (all : Loaded) : Type 0 where
-  pub rows : (row : RowFiles) → Contains all.rows row → HoldsRow meta told all.config row
+pub record RowsHaveZones (limits : Limits) (meta : List ℕ) (told : FilesTold) (all : Loaded) : Type 0 where
+  pub rows : (row : RowFiles) → Contains all.rows row → HoldsRow limits meta told all.config row
   pub found : (server : Server) (zone : Zone) → Contains all.config.servers server → Contains server.zones zone
       → held_zone all.config server.name zone.origin ≡ Some zone
   pub zones : (server : Server) (zone : Zone) → Contains all.config.servers server → Contains server.zones zone

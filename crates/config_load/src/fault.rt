@@ -19,7 +19,7 @@ pub enum LoadFault {
     Read {
         file: Text,
     },
-    /// This file has more than 16,777,216 octets.
+    /// This file has more octets than the limits allow.
     #[error("a file is too long")]
     TooLong {
         file: Text,

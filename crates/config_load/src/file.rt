@@ -6,53 +6,59 @@ ghost use Rattle.io_edges.specs.Files.{FilesTold, Holds, StaysTold, TellsAll, fi
 ghost use Rattle.config_load.specs.Faults.{FailedAt, IsReadOf};
 ghost use Rattle.config_load.specs.Fed.{HasFed, FailsToRead, IsFed};
 ghost use Rattle.config_load.specs.Load.{Gives, FailedWhereItCame, OpensNoOther};
-ghost use Rattle.config_load.specs.Reading.{file_octets, most_octets};
+ghost use Rattle.config_load.specs.Limits.{largest_octets};
+ghost use Rattle.config_load.specs.Reading.{file_octets};
 ghost use Rattle.config_load.specs.Sources.{ReadsOnly, HasAnswered};
 
 use crate::fault::LoadFault;
+use crate::limits::Limits;
 use dns_data::List;
 use io_edges::Files;
 use master_read::{AfterFile, ZoneReader};
 use std::alloc::Global;
 
-/// How many octets a file may have.
-const MOST_OCTETS: usize = 16_777_216;
-
 /// How many octets a read asks for.
 const PIECE: usize = 4_096;
 
 /// The octets of the file of this name, which is opened as it stands and read to its end. It is `TooLong` where the
-/// file has more than 16,777,216 octets.
-pub fn read_file<F: Files>(alloc: Global, files: &mut F, name: &str) -> Result<List<u8>, LoadFault>
+/// file has more octets than the limits allow.
+pub fn read_file<F: Files>(
+    alloc: Global,
+    limits: Limits,
+    files: &mut F,
+    name: &str,
+) -> Result<List<u8>, LoadFault>
     // What it answers is what the file gives, by what is told of it after the call and by whatever tells more.
-    ensures gives { Gives (file_octets name.now (F.told files.new)) result }
-    ensures later { (later : FilesTold) → StaysTold (F.told files.new) later → Gives (file_octets name.now later) result }
+    ensures gives { Gives (file_octets limits name.now (F.told files.new)) result }
+    ensures later { (later : FilesTold) → StaysTold (F.told files.new) later → Gives (file_octets limits name.now later) result }
 
     // A failed read is of this file, and has its cause in a count.
     ensures cause { FailedAt (F.faults files.old) (F.faults files.new) result }
-    ensures order { FailedWhereItCame (file_octets name.now) (F.told files.new) result }
+    ensures order { FailedWhereItCame (file_octets limits name.now) (F.told files.new) result }
 
     // What the call does to the source. One that told all from the start tells the same after the call.
     ensures stays { StaysTold (F.told files.old) (F.told files.new) }
     ensures from_the_start { TellsAll (F.told files.old) → F.told files.new ≡ F.told files.old }
-    ensures opens { OpensNoOther (file_octets name.now) (F.told files.old) (F.told files.new) }
+    ensures opens { OpensNoOther (file_octets limits name.now) (F.told files.old) (F.told files.new) }
     ensures never_fall { NoneFell (F.faults files.old) (F.faults files.new) }
 {
-    read_whole(alloc, files, name)
+    read_whole(alloc, limits, files, name)
 }
 
 /// The octets of the file of this name, read to its end.
 pub(crate) fn read_whole<F: Files>(
     alloc: Global,
+    limits: Limits,
     files: &mut F,
     name: &str,
 ) -> Result<List<u8>, LoadFault>
-    ensures { HasAnswered (F.told files.old) (F.told files.new) (F.faults files.old) (F.faults files.new) (file_octets name.now) result }
+    ensures { HasAnswered (F.told files.old) (F.told files.new) (F.faults files.old) (F.faults files.new) (file_octets limits name.now) result }
 {
+    let most = limits.most_octets();
     let mut octets = Vec::new(alloc);
     let mut piece = [0; PIECE];
-    while octets.len() <= MOST_OCTETS {
-        let room = PIECE.min(MOST_OCTETS + 1 - octets.len());
+    while octets.len() <= most {
+        let room = PIECE.min(most + 1 - octets.len());
         let count = read_more(alloc, files, name, &mut octets, &mut piece[..room])?;
         if count == 0 {
             return Ok(List::from_vec(octets));
@@ -116,21 +122,23 @@ fn read_at<F: Files>(
 /// ended. It answers what comes behind it.
 pub(crate) fn feed_whole<F: Files>(
     alloc: Global,
+    limits: Limits,
     files: &mut F,
     name: &str,
     reader: &mut ZoneReader,
 ) -> Result<AfterFile, LoadFault>
     requires open { reader.old.ended ≡ false }
     requires none { reader.old.fed ≡ 0 }
-    ensures asked { IfOk result (λ asked. HasFed (F.told files.new) name.now reader.old asked reader.new) }
-    ensures fault { IfErr result (FailsToRead (F.told files.new) name.now) }
+    ensures asked { IfOk result (λ asked. HasFed limits (F.told files.new) name.now reader.old asked reader.new) }
+    ensures fault { IfErr result (FailsToRead limits (F.told files.new) name.now) }
     ensures cause { FailedAt (F.faults files.old) (F.faults files.new) result }
     ensures only { ReadsOnly name.now (F.told files.old) (F.told files.new) (F.faults files.old) (F.faults files.new) }
 {
+    let most = limits.most_octets();
     let mut at = 0;
     let mut piece = [0; PIECE];
-    while at <= MOST_OCTETS {
-        let room = PIECE.min(MOST_OCTETS + 1 - at);
+    while at <= most {
+        let room = PIECE.min(most + 1 - at);
         let count = feed_more(alloc, files, name, at, reader, &mut piece[..room])?;
         if count == 0 {
             return Ok(reader.end_file(alloc)?);
@@ -152,7 +160,7 @@ fn feed_more<F: Files>(
 ) -> Result<usize, LoadFault>
     requires read { length (first_told (F.told files.old name.now) at) ≡ at }
     requires some { 0 < length piece.old }
-    requires room { at + length piece.old ≤ most_octets + 1 }
+    requires room { at + length piece.old ≤ largest_octets + 1 }
     requires open { reader.old.ended ≡ false }
     requires fed { reader.old.fed ≡ at }
     ensures stands { IfOk result (λ count. IsFed reader.old (first_told (F.told files.old name.now) at)

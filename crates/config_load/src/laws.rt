@@ -2,10 +2,11 @@
 
 ghost use Rattle.std.specs.Prelude.{◌≡◌, ◌≢◌, ℕ, List};
 ghost use Rattle.io_edges.specs.Files.{FilesTold};
-ghost use Rattle.config_load.specs.Conf.{conf, config_of, loaded};
+ghost use Rattle.config_load.specs.Conf.{conf_within, config_of, loaded_within};
 ghost use Rattle.config_load.specs.Load.{IsSteady};
 ghost use Rattle.config_load.specs.Reading.{Reads, Refuses, file_octets};
 ghost use Rattle.config_load.specs.RowZones.{RowsHaveZones};
+ghost use Rattle.config_load.specs.declared.limits.Limits.{Limits};
 ghost use Rattle.config_load.specs.declared.loaded.Loaded.{Loaded};
 
 use crate::fault::LoadFault;
@@ -13,24 +14,25 @@ use crate::fault::LoadFault;
 /// Files are refused for what they say, never for a failed read or because memory ran out: those answers are a call's
 /// alone.
 pub fn files_want_nothing()
-    ensures read { (meta : List ℕ) (told : FilesTold) (file : List ℕ) → conf meta told ≢ Refuses (LoadFault.Read file) }
-    ensures memory { (meta : List ℕ) (told : FilesTold) → conf meta told ≢ Refuses LoadFault.NoMemory }
+    ensures read { (limits : Limits) (meta : List ℕ) (told : FilesTold) (file : List ℕ) → conf_within limits meta told ≢ Refuses (LoadFault.Read file) }
+    ensures memory { (limits : Limits) (meta : List ℕ) (told : FilesTold) → conf_within limits meta told ≢ Refuses LoadFault.NoMemory }
 {}
 
 /// What the files of a metadata file give, and what one file gives, they give by whatever is told later, unless the reading
 /// stopped at a name of which nothing was told and now is.
 pub fn readings_stay()
-    ensures conf { (meta : List ℕ) → IsSteady (conf meta) }
-    ensures file { (name : List ℕ) → IsSteady (file_octets name) }
+    ensures conf { (limits : Limits) (meta : List ℕ) → IsSteady (conf_within limits meta) }
+    ensures file { (limits : Limits) (name : List ℕ) → IsSteady (file_octets limits name) }
 {}
 
 /// What the files give with the names of files is what they give without these.
 pub fn rows_tell_files()
-    ensures config { (meta : List ℕ) (told : FilesTold) → conf meta told ≡ config_of (loaded meta told) }
+    ensures config { (limits : Limits) (meta : List ℕ) (told : FilesTold) → conf_within limits meta told ≡ config_of (loaded_within limits meta told) }
 {}
 
 /// In what files give, each row has the zone that was read from its files, and each zone of the configuration is that
 /// of one row. So the records of the rows are those of the configuration.
 pub fn rows_have_zones()
-    ensures { (meta : List ℕ) (told : FilesTold) (all : Loaded) → loaded meta told ≡ Reads all → RowsHaveZones meta told all }
+    ensures { (limits : Limits) (meta : List ℕ) (told : FilesTold) (all : Loaded)
+        → loaded_within limits meta told ≡ Reads all → RowsHaveZones limits meta told all }
 {}

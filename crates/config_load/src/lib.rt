@@ -8,7 +8,8 @@
 //! and after, so of such a source the same holds of what it told before. What was answered holds by whatever is told
 //! later (`readings_stay`): so readings may follow one another. `load_with_files` gives the names of files beside a
 //! configuration, which is the one that `load` gives (`rows_tell_files`); each row has the zone that was read from its
-//! files, and each zone is that of one row (`rows_have_zones`).
+//! files, and each zone is that of one row (`rows_have_zones`). `shown_file` gives the name of a file as lines for people
+//! show it.
 //!
 //! Costs: each file is read once for each row or `$INCLUDE` that names it, in pieces of 4,096 octets, and a zone file
 //! without `$INCLUDE` is never held whole. No record is copied. A row's server is found, and a zone that its server
@@ -18,9 +19,10 @@
 
 mod fault;
 mod file;
+mod file_name;
 mod joined;
 mod laws;
-mod left;
+mod limits;
 mod loaded;
 mod loading;
 mod refusal;
@@ -31,6 +33,8 @@ mod zone_files;
 
 pub use fault::LoadFault;
 pub use file::read_file;
+pub use file_name::{put_decimal_escape, put_shown_octet, shown_file};
 pub use laws::{files_want_nothing, readings_stay, rows_have_zones, rows_tell_files};
+pub use limits::Limits;
 pub use loaded::{Loaded, RowFiles};
-pub use loading::{load, load_with_files};
+pub use loading::{load, load_with_files, load_within};

@@ -2,13 +2,12 @@
 
 ghost use Rattle.std.specs.Prelude.{◌≤◌, length};
 ghost use Rattle.dns_data.specs.Answers.{AnswersOr};
-ghost use Rattle.meta_read.specs.Rows.{most_rows};
 ghost use Rattle.config_load.specs.Conf.{no_rows, with_row, with_rows};
 ghost use Rattle.config_load.specs.RowRead.{row_read};
 ghost use Rattle.config_load.specs.Sources.{HasAnswered};
 
 use crate::fault::LoadFault;
-use crate::left::Left;
+use crate::limits::Limits;
 use crate::loaded::RowFiles;
 use crate::servers::Servers;
 use crate::zone::{ReadZone, read_zone};
@@ -21,7 +20,7 @@ use std::alloc::Global;
 #[derive(Drop)]
 pub(crate) struct ReadRows {
     /// What they left.
-    pub left: Left,
+    pub left: Limits,
     /// The servers in the order of their first rows, each with its zones in the order of rows.
     pub servers: Servers,
     /// The rows, in order.
@@ -31,15 +30,16 @@ pub(crate) struct ReadRows {
 /// What all rows give, in order.
 pub(crate) fn read_rows<F: Files>(
     alloc: Global,
+    limits: Limits,
     files: &mut F,
     meta: &str,
     all: &[MetaRow],
 ) -> Result<ReadRows, LoadFault>
-    requires { length all.now ≤ most_rows }
-    ensures { HasAnswered (F.told files.old) (F.told files.new) (F.faults files.old) (F.faults files.new) (with_rows meta.now 1 all.now no_rows) result }
+    requires { length all.now ≤ limits.rows }
+    ensures { HasAnswered (F.told files.old) (F.told files.new) (F.faults files.old) (F.faults files.new) (with_rows meta.now 1 all.now (no_rows limits)) result }
 {
     let mut rows = ReadRows {
-        left: Left::everything(),
+        left: limits,
         servers: Servers::new(alloc),
         rows: List::new(alloc),
     };

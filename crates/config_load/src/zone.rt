@@ -10,7 +10,7 @@ ghost use Rattle.config_load.specs.Sources.{HasAnswered};
 ghost use Rattle.zone_rules.specs.declared.fault.RuleFault.TheVariants.{At};
 
 use crate::fault::LoadFault;
-use crate::left::Left;
+use crate::limits::Limits;
 use crate::zone_files::read_zone_files;
 use dns_data::{List, Name, NoMemory, Rr, Text};
 use io_edges::Files;
@@ -24,7 +24,7 @@ use zone_rules::{RuleCause, RuleFault, check_zone};
 pub(crate) struct ReadZone {
     pub zone: Zone,
     pub names: List<Text>,
-    pub left: Left,
+    pub left: Limits,
 }
 
 /// The zone of a row, by the rules of zones, where so much may still be read.
@@ -33,7 +33,7 @@ pub(crate) fn read_zone<F: Files>(
     files: &mut F,
     meta: &str,
     row: &MetaRow,
-    left: Left,
+    left: Limits,
 ) -> Result<ReadZone, LoadFault>
     ensures { HasAnswered (F.told files.old) (F.told files.new) (F.faults files.old) (F.faults files.new) (zone_read meta.now row.now left) result }
 {

@@ -11,7 +11,7 @@ ghost use Rattle.config_load.specs.Sources.{HasAnswered, ReadsOnly};
 use crate::fault::LoadFault;
 use crate::file::feed_whole;
 use crate::joined::joined_name;
-use crate::left::Left;
+use crate::limits::Limits;
 use dns_data::{List, Name, NoMemory, Text};
 use io_edges::Files;
 use master_read::{AfterFile, TextFault, ZoneReader, ZoneText};
@@ -31,7 +31,7 @@ pub(crate) fn read_zone_files<F: Files>(
     files: &mut F,
     meta: &str,
     row: &MetaRow,
-    left: Left,
+    left: Limits,
 ) -> Result<ZoneFiles, LoadFault>
     ensures { HasAnswered (F.told files.old) (F.told files.new) (F.faults files.old) (F.faults files.new) (zone_files meta.now row.now left) result }
 {
@@ -40,6 +40,7 @@ pub(crate) fn read_zone_files<F: Files>(
     let mut names = List::new(alloc);
     let mut asked = feed_next(
         alloc,
+        left,
         files,
         meta,
         row.file.as_str(),
@@ -47,7 +48,15 @@ pub(crate) fn read_zone_files<F: Files>(
         &mut reader,
     )?;
     while let AfterFile::Include { file } = asked {
-        asked = feed_next(alloc, files, meta, file.as_str(), &mut names, &mut reader)?;
+        asked = feed_next(
+            alloc,
+            left,
+            files,
+            meta,
+            file.as_str(),
+            &mut names,
+            &mut reader,
+        )?;
     }
     told(alloc, names, reader.finish())
 }
@@ -56,6 +65,7 @@ pub(crate) fn read_zone_files<F: Files>(
 /// is. The name under which it was opened is put behind the others. It answers what comes behind the file.
 fn feed_next<F: Files>(
     alloc: Global,
+    left: Limits,
     files: &mut F,
     meta: &str,
     file: &str,
@@ -65,13 +75,13 @@ fn feed_next<F: Files>(
     requires open { reader.old.ended ≡ false }
     requires none { reader.old.fed ≡ 0 }
     ensures named { OnOk result (names.new ≡ names.old ++ joined meta.now file.now ∷ []) }
-    ensures asked { IfOk result (λ asked. HasFed (F.told files.new) (joined meta.now file.now) reader.old asked reader.new) }
-    ensures fault { IfErr result (FailsToRead (F.told files.new) (joined meta.now file.now)) }
+    ensures asked { IfOk result (λ asked. HasFed left (F.told files.new) (joined meta.now file.now) reader.old asked reader.new) }
+    ensures fault { IfErr result (FailsToRead left (F.told files.new) (joined meta.now file.now)) }
     ensures cause { FailedAt (F.faults files.old) (F.faults files.new) result }
     ensures only { ReadsOnly (joined meta.now file.now) (F.told files.old) (F.told files.new) (F.faults files.old) (F.faults files.new) }
 {
     let name = joined_name(alloc, meta, file)?;
-    let asked = feed_whole(alloc, files, name.as_str(), reader)?;
+    let asked = feed_whole(alloc, left, files, name.as_str(), reader)?;
     names.push(name)?;
     Ok(asked)
 }

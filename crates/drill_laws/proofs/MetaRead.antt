@@ -9,9 +9,9 @@ use Rattle.dns_data.specs.Spelling.{name_of_text}
 use Rattle.dns_data.specs.declared.fault.NameFault.{NameFault}
 use Rattle.dns_data.proofs.RoundTrip.{not_empty}
 use Rattle.meta_read.specs.Members.{values_of}
-use Rattle.meta_read.specs.Metadata.{metadata_in, metadata_of, first_unhosted, unless_unhosted}
+use Rattle.meta_read.specs.Metadata.{metadata_in, metadata_within, first_unhosted, unless_unhosted}
 use Rattle.meta_read.specs.Names.{each}
-use Rattle.meta_read.specs.Rows.{read_row, most_rows}
+use Rattle.meta_read.specs.Rows.{read_row}
 use Rattle.meta_read.specs.declared.fault.MetaFault.{MetaFault}
 use Rattle.meta_read.specs.declared.fault.MetaFault.TheVariants.{NotJson, Shape, BadName, TooManyRows}
 use Rattle.meta_read.specs.declared.meta.Meta.{Meta}
@@ -52,13 +52,13 @@ values_count : (a k : ℕ) → length (values_of (row_items (range_with_len a k)
 values_count a zero = refl
 values_count a (suc k) = ap suc (values_count (a + 1) k)
 
-value_reads : (n : ℕ) → n ≤ 5000 → metadata_in (meta_value n) ≡ Ok (drill_meta n)
-value_reads n few =
+value_reads : (most n : ℕ) → 10000 ≤ most → n ≤ 5000 → metadata_in most (meta_value n) ≡ Ok (drill_meta n)
+value_reads most n enough few =
     let values = root_value ∷ values_of (row_items (zone_numbers n)) in
-    let few_enough : nat_lt most_rows (length values) ≡ false = let count = values_count 0 n in grind (arith, nat_tests) in
+    let few_enough : nat_lt most (length values) ≡ false = let count = values_count 0 n in grind (arith, nat_tests) in
     ap (λ (many : Bool). (if many then Err TooManyRows else each read_row 1 values) >>= (λ rows. unless_unhosted (first_unhosted (top ∷ []) rows) (record { tops = top ∷ []; rows = rows }))) few_enough
     ∙ ap (λ (said : Result (List MetaRow) MetaFault). (said >>= (λ rest. Ok (root_row ∷ rest))) >>= (λ rows. unless_unhosted (first_unhosted (top ∷ []) rows) (record { tops = top ∷ []; rows = rows }))) (rows_read 0 n 2 (omega arith))
 
 -- the metadata's octets give the top server and the rows
-pub meta_given : (n : ℕ) → n ≤ 5000 → metadata_of (meta_text n) ≡ Ok (drill_meta n)
-meta_given n few = ap (λ (value : Option Data). ok_or value NotJson >>= metadata_in) (meta_value_of n few) ∙ value_reads n few
+pub meta_given : (most n : ℕ) → 10000 ≤ most → n ≤ 5000 → metadata_within most (meta_text n) ≡ Ok (drill_meta n)
+meta_given most n enough few = ap (λ (value : Option Data). ok_or value NotJson >>= metadata_in most) (meta_value_of n few) ∙ value_reads most n enough few

@@ -62,7 +62,7 @@ next_small n i small = by (nat_lt (i + 1) n) where
 
 -- ---- texts
 
--- the text of a zone is within the most octets of a file
+-- the text of a zone is no longer than a file usually may be
 pub zone_size : (n i : ℕ) → i < 5000 → length (made_zone_text n i) ≤ 16777216
 zone_size n i small =
     let below : i < 10000 = omega arith in
@@ -84,7 +84,7 @@ numbers_long most text each a (suc k) fits =
 referral_size : (i : ℕ) → i < 5000 → length (referral_lines i) ≤ 70
 referral_size i small = both 30 40 (delegation_line i) (server_line 0 i) (delegation_long (decimal i) (short i (omega arith))) (server_size 0 i (omega arith) (omega arith))
 
--- the text of the root zone is within the most octets of a file
+-- the text of the root zone is no longer than a file usually may be
 pub root_size : (n : ℕ) → n ≤ 5000 → length (root_text n) ≤ 16777216
 root_size n few =
     let lines = numbers_long 70 referral_lines referral_size 0 n (omega arith) in
@@ -94,7 +94,7 @@ root_size n few =
 row_size : (i : ℕ) → i < 5000 → length (meta_row i) ≤ 70
 row_size i small = row_long (decimal i) (short i (omega arith))
 
--- the text of the metadata is within the most octets of a file
+-- the text of the metadata is no longer than a file usually may be
 pub meta_size : (n : ℕ) → n ≤ 5000 → length (meta_text n) ≤ 16777216
 meta_size n few =
     let rows = numbers_long 70 meta_row row_size 0 n (omega arith) in

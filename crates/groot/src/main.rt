@@ -6,6 +6,7 @@ ghost use Rattle.std.specs.Io.KnownBytes.{Appends};
 ghost use Rattle.std.specs.String.{string_bytes};
 ghost use Rattle.io_edges.specs.Counts.{Rose};
 ghost use Rattle.groot_line.specs.Job.{job_of};
+ghost use Rattle.groot_line.specs.declared.program.Program.TheVariants.{Groot};
 ghost use Rattle.run_endings.specs.declared.ending.Ending.{Ending};
 ghost use Rattle.groot_run.specs.Outcome.{NoJobReadFailed, Outcome};
 
@@ -66,10 +67,10 @@ fn run<F: Files, O: Sink, E: Sink, R: Threads + Wait + Sync>(
     err: &mut E,
     sites: Vec<Box<dyn SiteCheck>>,
 ) -> Status
-    ensures { NoJobReadFailed (F.told files.new) (job_of (map string_bytes words.now)) (F.faults files.old) (F.faults files.new) →
+    ensures { NoJobReadFailed Groot (F.told files.new) (job_of (map string_bytes words.now)) (F.faults files.old) (F.faults files.new) →
         (Rose (O.faults out.old) (O.faults out.new) → ⊥) →
         ((ending : Ending)
-        × Outcome (F.told files.new) (job_of (map string_bytes words.now)) (map (λ b. record { name = name b; held = held b; step = step b }) sites.items) ending
+        × Outcome Groot (F.told files.new) (job_of (map string_bytes words.now)) (map (λ b. record { name = name b; held = held b; step = step b }) sites.items) ending
         × (result ≡ ending.status) × Appends (O.taken out.old) (O.taken out.new) ending.out)
         ⊎ (result ≡ Status.NoMemory) }
 {

@@ -8,9 +8,10 @@ use Rattle.dns_data.specs.Number.{is_digits, number_up_to}
 use Rattle.dns_data.specs.Octet.{digits_after}
 use Rattle.groot_line.specs.Arguments.{Arguments, arguments_of}
 use Rattle.groot_line.specs.Command.{command_of}
-use Rattle.groot_line.specs.Job.{asked, asked_scope, job_by, job_of, InRange, AreInRange}
+use Rattle.groot_line.specs.Job.{asked, asked_scope, job_by, job_asked, InRange, AreInRange}
 use Rattle.groot_line.specs.LineOption.{most_of}
 use Rattle.groot_line.specs.Number.{unless_zero, number_to, number_by}
+use Rattle.groot_line.specs.Program.{most_digits}
 use Rattle.groot_line.specs.Operands.{asked_file, only_meta, two_files, asked_name, asked_type, most_zones, drill_number}
 use Rattle.groot_line.specs.declared.command.Command.{Command}
 use Rattle.groot_line.specs.declared.command.Command.TheVariants as commands
@@ -19,6 +20,8 @@ use Rattle.groot_line.specs.declared.fault.LineFault.TheVariants.{Usage}
 use Rattle.groot_line.specs.declared.job.Job.{Job}
 use Rattle.groot_line.specs.declared.line_option.LineOption.{LineOption}
 use Rattle.groot_line.specs.declared.line_option.LineOption.TheVariants as options
+use Rattle.groot_line.specs.declared.program.Program.{Program}
+use Rattle.groot_line.specs.declared.program.Program.TheVariants.{Groot, GrootLarge}
 
 -- what holds of the value of the first step, and what the next makes of such a value
 if_ok_then : {T U E : Type 0} (P : T → Type 0) (Q : U → Type 0) (said : Result T E) (next : T → Result U E) → IfOk said P → ((value : T) → P value → IfOk (next value) Q) → IfOk (said >>= next) Q
@@ -47,68 +50,69 @@ at_most digits most word n e =
     subst (λ m. m ≤ most) through.1 (leb-true (digits_after 0 word) most through.0)
 
 -- the number that a value gives is in the range
-number_in_range : (most : ℕ) (word : List ℕ) (n : ℕ) → number_to most word ≡ Some n → InRange most n
-number_in_range most word n e = by (number_up_to 7 most word) refl e where
-  by : (o : Option ℕ) → number_up_to 7 most word ≡ o → option_and_then unless_zero o ≡ Some n → InRange most n
+number_in_range : (program : Program) (most : ℕ) (word : List ℕ) (n : ℕ) → number_to program most word ≡ Some n → InRange most n
+number_in_range program most word n e = by (number_up_to (most_digits program) most word) refl e where
+  by : (o : Option ℕ) → number_up_to (most_digits program) most word ≡ o → option_and_then unless_zero o ≡ Some n → InRange most n
   by None is e = cc
   by (Some number) is e = decided (number == 0) refl e where
     decided : (b : Bool) → (number == 0) ≡ b → cond b None (Some number) ≡ Some n → InRange most n
     decided true zero e = cc
     decided false some e =
         let differs = eqb-false number 0 some in
-        subst (InRange most) (same_Some number n e) (omega (arith, differs), at_most 7 most word number is)
+        subst (InRange most) (same_Some number n e) (omega (arith, differs), at_most (most_digits program) most word number is)
 
 -- the number of an option
-option_in : (option : LineOption) (value : Option (List ℕ)) → IfOk (number_by option value) (InRange (most_of option))
-option_in options.Workers None = (omega arith, omega arith)
-option_in options.Classes None = (omega arith, omega arith)
-option_in options.Rewrites None = (omega arith, omega arith)
-option_in option (Some value) = if_ok_or (InRange (most_of option)) (number_to (most_of option) value) Usage (number_in_range (most_of option) value)
+option_in : (program : Program) (option : LineOption) (value : Option (List ℕ)) → IfOk (number_by program option value) (InRange (most_of program option))
+option_in program options.Workers None = (omega arith, omega arith)
+option_in Groot options.Classes None = (omega arith, omega arith)
+option_in GrootLarge options.Classes None = (omega arith, omega arith)
+option_in program options.Rewrites None = (omega arith, omega arith)
+option_in program option (Some value) = if_ok_or (InRange (most_of program option)) (number_to program (most_of program option) value) Usage (number_in_range program (most_of program option) value)
 
-asked_in : (operands : List (List ℕ)) → IfOk (asked operands) AreInRange
-asked_in [] = tt
-asked_in (meta ∷ []) = tt
-asked_in (meta ∷ name ∷ []) = tt
-asked_in (meta ∷ name ∷ rtype ∷ []) = through AreInRange (asked_file meta) _ (λ m. through AreInRange (asked_name name) _ (λ n. through AreInRange (asked_type rtype) _ (λ t. tt)))
-asked_in (meta ∷ name ∷ rtype ∷ other ∷ rest) = tt
+asked_in : (program : Program) (operands : List (List ℕ)) → IfOk (asked operands) (AreInRange program)
+asked_in program [] = tt
+asked_in program (meta ∷ []) = tt
+asked_in program (meta ∷ name ∷ []) = tt
+asked_in program (meta ∷ name ∷ rtype ∷ []) = through (AreInRange program) (asked_file meta) _ (λ m. through (AreInRange program) (asked_name name) _ (λ n. through (AreInRange program) (asked_type rtype) _ (λ t. tt)))
+asked_in program (meta ∷ name ∷ rtype ∷ other ∷ rest) = tt
 
-asked_scope_in : (operands : List (List ℕ)) → IfOk (asked_scope operands) AreInRange
-asked_scope_in [] = tt
-asked_scope_in (meta ∷ []) = tt
-asked_scope_in (meta ∷ name ∷ []) = through AreInRange (asked_file meta) _ (λ m. through AreInRange (asked_name name) _ (λ n. tt))
-asked_scope_in (meta ∷ name ∷ other ∷ rest) = tt
+asked_scope_in : (program : Program) (operands : List (List ℕ)) → IfOk (asked_scope operands) (AreInRange program)
+asked_scope_in program [] = tt
+asked_scope_in program (meta ∷ []) = tt
+asked_scope_in program (meta ∷ name ∷ []) = through (AreInRange program) (asked_file meta) _ (λ m. through (AreInRange program) (asked_name name) _ (λ n. tt))
+asked_scope_in program (meta ∷ name ∷ other ∷ rest) = tt
 
-drill_in : (operands : List (List ℕ)) → IfOk (drill_number operands) (InRange most_zones)
-drill_in [] = tt
-drill_in (word ∷ []) = if_ok_or (InRange most_zones) (number_to most_zones word) Usage (number_in_range most_zones word)
-drill_in (word ∷ other ∷ rest) = tt
+drill_in : (program : Program) (operands : List (List ℕ)) → IfOk (drill_number program operands) (InRange most_zones)
+drill_in program [] = tt
+drill_in program (word ∷ []) = if_ok_or (InRange most_zones) (number_to program most_zones word) Usage (number_in_range program most_zones word)
+drill_in program (word ∷ other ∷ rest) = tt
 
-job_by_in : (command : Command) (arguments : Arguments) → IfOk (job_by command arguments) AreInRange
-job_by_in commands.Check arguments =
-    through AreInRange (only_meta arguments.operands) _
-    (λ meta. if_ok_then (InRange (most_of options.Workers)) AreInRange (number_by options.Workers arguments.workers) _ (option_in options.Workers arguments.workers)
-    (λ workers first. if_ok_then (InRange (most_of options.Classes)) AreInRange (number_by options.Classes arguments.classes) _ (option_in options.Classes arguments.classes)
-    (λ classes second. if_ok_then (InRange (most_of options.Rewrites)) AreInRange (number_by options.Rewrites arguments.rewrites) _ (option_in options.Rewrites arguments.rewrites)
+job_by_in : (program : Program) (command : Command) (arguments : Arguments) → IfOk (job_by program command arguments) (AreInRange program)
+job_by_in program commands.Check arguments =
+    through (AreInRange program) (only_meta arguments.operands) _
+    (λ meta. if_ok_then (InRange (most_of program options.Workers)) (AreInRange program) (number_by program options.Workers arguments.workers) _ (option_in program options.Workers arguments.workers)
+    (λ workers first. if_ok_then (InRange (most_of program options.Classes)) (AreInRange program) (number_by program options.Classes arguments.classes) _ (option_in program options.Classes arguments.classes)
+    (λ classes second. if_ok_then (InRange (most_of program options.Rewrites)) (AreInRange program) (number_by program options.Rewrites arguments.rewrites) _ (option_in program options.Rewrites arguments.rewrites)
     (λ rewrites third. (first, second, third)))))
-job_by_in commands.Ask arguments = asked_in arguments.operands
-job_by_in commands.Classes arguments =
-    through AreInRange (only_meta arguments.operands) _
-    (λ meta. if_ok_then (InRange (most_of options.Classes)) AreInRange (number_by options.Classes arguments.classes) _ (option_in options.Classes arguments.classes) (λ classes within. within))
-job_by_in commands.Drill arguments =
-    if_ok_then (InRange most_zones) AreInRange (drill_number arguments.operands) _ (drill_in arguments.operands)
-    (λ n within. if_ok_then (InRange (most_of options.Workers)) AreInRange (number_by options.Workers arguments.workers) _ (option_in options.Workers arguments.workers) (λ workers second. (within, second)))
-job_by_in commands.Site arguments = through AreInRange (only_meta arguments.operands) _ (λ meta. tt)
-job_by_in commands.Recheck arguments = through AreInRange (two_files arguments.operands) _ (λ files. tt)
-job_by_in commands.Same arguments = through AreInRange (two_files arguments.operands) _ (λ files. tt)
-job_by_in commands.Scope arguments = asked_scope_in arguments.operands
+job_by_in program commands.Ask arguments = asked_in program arguments.operands
+job_by_in program commands.Classes arguments =
+    through (AreInRange program) (only_meta arguments.operands) _
+    (λ meta. if_ok_then (InRange (most_of program options.Classes)) (AreInRange program) (number_by program options.Classes arguments.classes) _ (option_in program options.Classes arguments.classes) (λ classes within. within))
+job_by_in program commands.Drill arguments =
+    if_ok_then (InRange most_zones) (AreInRange program) (drill_number program arguments.operands) _ (drill_in program arguments.operands)
+    (λ n within. if_ok_then (InRange (most_of program options.Workers)) (AreInRange program) (number_by program options.Workers arguments.workers) _ (option_in program options.Workers arguments.workers) (λ workers second. (within, second)))
+job_by_in program commands.Site arguments = through (AreInRange program) (only_meta arguments.operands) _ (λ meta. tt)
+job_by_in program commands.Recheck arguments = through (AreInRange program) (two_files arguments.operands) _ (λ files. tt)
+job_by_in program commands.Same arguments = through (AreInRange program) (two_files arguments.operands) _ (λ files. tt)
+job_by_in program commands.Scope arguments = asked_scope_in program arguments.operands
 
 -- the numbers of the job that words ask for are in their ranges
-in_range : (words : List (List ℕ)) → IfOk (job_of words) AreInRange
-in_range [] = tt
-in_range (word ∷ words) =
-    through AreInRange (ok_or (command_of word) Usage) _
-    (λ command. through AreInRange (arguments_of command words) _ (λ arguments. job_by_in command arguments))
+in_range : (program : Program) (words : List (List ℕ)) → IfOk (job_asked program words) (AreInRange program)
+in_range program [] = tt
+in_range program (word ∷ words) =
+    through (AreInRange program) (ok_or (command_of word) Usage) _
+    (λ command. through (AreInRange program) (arguments_of command words) _ (λ arguments. job_by_in program command arguments))
 
 -- the numbers of a job that words ask for are in their ranges
-pub job_in_range : (words : List (List ℕ)) (job : Job) → job_of words ≡ Ok job → AreInRange job
-job_in_range words job e = subst (λ (said : Result Job LineFault). IfOk said AreInRange) e (in_range words)
+pub job_in_range : (program : Program) (words : List (List ℕ)) (job : Job) → job_asked program words ≡ Ok job → AreInRange program job
+job_in_range program words job e = subst (λ (said : Result Job LineFault). IfOk said (AreInRange program)) e (in_range program words)

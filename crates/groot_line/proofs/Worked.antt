@@ -1,12 +1,13 @@
 -- Words, and what they ask for.
 use Rattle.std.specs.Prelude.{◌≡◌, refl, List, ℕ, [], ◌∷◌, codes, Result, Ok, Err}
 use Rattle.dns_data.specs.declared.rr_type.RrType.TheVariants as types
-use Rattle.groot_line.specs.Job.{job_of}
+use Rattle.groot_line.specs.Job.{job_asked, job_of}
 use Rattle.groot_line.specs.declared.fault.LineFault.{LineFault}
 use Rattle.groot_line.specs.declared.fault.LineFault.TheVariants.{Usage}
 use Rattle.groot_line.specs.declared.job.Job.{Job}
 use Rattle.groot_line.specs.declared.job.Job.TheVariants.{OfConfig, Drill, Recheck, Same}
 use Rattle.groot_line.specs.declared.job.Task.TheVariants.{Check, Ask, Classes, Site, Scope}
+use Rattle.groot_line.specs.declared.program.Program.TheVariants.{GrootLarge}
 
 -- the job of a command and the words behind it
 abbrev said : List ℕ → List (List ℕ) → Result Job LineFault
@@ -187,3 +188,27 @@ classes_of_a_scope = refl
 -- a command in another case
 upper_case : said (codes "CHECK") (codes "m.json" ∷ []) ≡ Err Usage
 upper_case = refl
+
+-- what the same words ask of `groot-large`: more names, and no more of anything else
+large : List (List ℕ) → Result Job LineFault
+large words = job_asked GrootLarge (codes "check" ∷ codes "m.json" ∷ words)
+
+as_many_names_as_there_may_be : large [] ≡ Ok (OfConfig (codes "m.json") (Check 4 2147483647 12))
+unfolding large
+as_many_names_as_there_may_be = refl
+
+ten_digits : large (codes "--classes=2147483647" ∷ codes "--workers=0000000064" ∷ []) ≡ Ok (OfConfig (codes "m.json") (Check 64 2147483647 12))
+unfolding large
+ten_digits = refl
+
+one_name_more : large (codes "--classes=2147483648" ∷ []) ≡ Err Usage
+unfolding large
+one_name_more = refl
+
+sixty_five_workers : large (codes "--workers=65" ∷ []) ≡ Err Usage
+unfolding large
+sixty_five_workers = refl
+
+-- `groot` has no more than a million names
+a_name_past_the_million : check (codes "--classes=1000001" ∷ []) ≡ Err Usage
+a_name_past_the_million = refl

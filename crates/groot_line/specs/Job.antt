@@ -15,6 +15,8 @@ use Rattle.groot_line.specs.declared.job.Job.TheVariants.{OfConfig, Drill, Reche
 use Rattle.groot_line.specs.declared.job.Task.{Task}
 use Rattle.groot_line.specs.declared.job.Task.TheVariants.{Check, Ask, Classes, Site, Scope}
 use Rattle.groot_line.specs.declared.line_option.LineOption.TheVariants as options
+use Rattle.groot_line.specs.declared.program.Program.{Program}
+use Rattle.groot_line.specs.declared.program.Program.TheVariants.{Groot}
 
 -- the query that operands ask
 abbrev pub asked : List (List ℕ) → Result Job LineFault
@@ -34,57 +36,61 @@ asked_scope (meta_word ∷ name_word ∷ []) = do
 asked_scope operands = Err Usage
 
 -- the job of a command and the words behind it
-abbrev pub job_by : Command → Arguments → Result Job LineFault
-job_by commands.Check arguments = do
+abbrev pub job_by : Program → Command → Arguments → Result Job LineFault
+job_by program commands.Check arguments = do
   meta ← only_meta arguments.operands
-  workers ← number_by options.Workers arguments.workers
-  classes ← number_by options.Classes arguments.classes
-  rewrites ← number_by options.Rewrites arguments.rewrites
+  workers ← number_by program options.Workers arguments.workers
+  classes ← number_by program options.Classes arguments.classes
+  rewrites ← number_by program options.Rewrites arguments.rewrites
   Ok (OfConfig meta (Check workers classes rewrites))
-job_by commands.Ask arguments = asked arguments.operands
-job_by commands.Classes arguments = do
+job_by program commands.Ask arguments = asked arguments.operands
+job_by program commands.Classes arguments = do
   meta ← only_meta arguments.operands
-  classes ← number_by options.Classes arguments.classes
+  classes ← number_by program options.Classes arguments.classes
   Ok (OfConfig meta (Classes classes))
-job_by commands.Drill arguments = do
-  n ← drill_number arguments.operands
-  workers ← number_by options.Workers arguments.workers
+job_by program commands.Drill arguments = do
+  n ← drill_number program arguments.operands
+  workers ← number_by program options.Workers arguments.workers
   Ok (Drill n workers)
-job_by commands.Site arguments = do
+job_by program commands.Site arguments = do
   meta ← only_meta arguments.operands
   Ok (OfConfig meta Site)
-job_by commands.Recheck arguments = do
+job_by program commands.Recheck arguments = do
   files ← two_files arguments.operands
   Ok (Recheck files.0 files.1)
-job_by commands.Same arguments = do
+job_by program commands.Same arguments = do
   files ← two_files arguments.operands
   Ok (Same files.0 files.1)
-job_by commands.Scope arguments = asked_scope arguments.operands
+job_by program commands.Scope arguments = asked_scope arguments.operands
 
--- the job that the words ask for
-abbrev pub job_of : List (List ℕ) → Result Job LineFault
-job_of [] = Err Usage
-job_of (word ∷ words) = do
+-- the job that the words ask of the program
+abbrev pub job_asked : Program → List (List ℕ) → Result Job LineFault
+job_asked program [] = Err Usage
+job_asked program (word ∷ words) = do
   command ← ok_or (command_of word) Usage
   arguments ← arguments_of command words
-  job_by command arguments
+  job_by program command arguments
+
+-- the job that the words ask of `groot`
+abbrev pub job_of : List (List ℕ) → Result Job LineFault
+job_of = job_asked Groot
 
 -- a number from 1 up to the most
 abbrev pub InRange : ℕ → ℕ → Type 0
 InRange most n = (0 < n) × (n ≤ most)
 
--- the numbers of a task are such as words may say
-abbrev pub IsTaskInRange : Task → Type 0
-IsTaskInRange (Check workers classes rewrites) =
-    InRange (most_of options.Workers) workers × InRange (most_of options.Classes) classes × InRange (most_of options.Rewrites) rewrites
-IsTaskInRange (Ask name rtype) = Unit {0}
-IsTaskInRange (Classes classes) = InRange (most_of options.Classes) classes
-IsTaskInRange Site = Unit {0}
-IsTaskInRange (Scope name) = Unit {0}
+-- the numbers of a task are such as words may say to the program
+abbrev pub IsTaskInRange : Program → Task → Type 0
+IsTaskInRange program (Check workers classes rewrites) =
+    InRange (most_of program options.Workers) workers × InRange (most_of program options.Classes) classes × InRange (most_of program options.Rewrites) rewrites
+IsTaskInRange program (Ask name rtype) = Unit {0}
+IsTaskInRange program (Classes classes) = InRange (most_of program options.Classes) classes
+IsTaskInRange program Site = Unit {0}
+IsTaskInRange program (Scope name) = Unit {0}
 
--- the numbers of a job are such as words may say
-abbrev pub AreInRange : Job → Type 0
-AreInRange (OfConfig meta task) = IsTaskInRange task
-AreInRange (Drill n workers) = InRange most_zones n × InRange (most_of options.Workers) workers
-AreInRange (Recheck meta report) = Unit {0}
-AreInRange (Same first second) = Unit {0}
+-- the numbers of a job are such as words may say to the program
+abbrev pub AreInRange : Program → Job → Type 0
+AreInRange program (OfConfig meta task) = IsTaskInRange program task
+AreInRange program (Drill n workers) = InRange most_zones n × InRange (most_of program options.Workers) workers
+AreInRange program (Recheck meta report) = Unit {0}
+AreInRange program (Same first second) = Unit {0}

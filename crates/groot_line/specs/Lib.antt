@@ -1,3 +1,4 @@
+pub mod Program
 pub mod Number
 pub mod LineOption
 pub mod Command

@@ -8,6 +8,7 @@ use Rattle.dns_data.specs.declared.rr_type.RrType.{RrType}
 use Rattle.groot_line.specs.Number.{number_to}
 use Rattle.groot_line.specs.declared.fault.LineFault.{LineFault}
 use Rattle.groot_line.specs.declared.fault.LineFault.TheVariants.{Usage}
+use Rattle.groot_line.specs.declared.program.Program.{Program}
 
 -- the file that a word names; the word isn't empty
 abbrev pub asked_file : List ℕ → Result (List ℕ) LineFault
@@ -39,6 +40,6 @@ abbrev pub most_zones : ℕ
 most_zones = 5000
 
 -- the number of zones of a drill, if the word for it is the only operand
-abbrev pub drill_number : List (List ℕ) → Result ℕ LineFault
-drill_number (word ∷ []) = ok_or (number_to most_zones word) Usage
-drill_number operands = Err Usage
+abbrev pub drill_number : Program → List (List ℕ) → Result ℕ LineFault
+drill_number program (word ∷ []) = ok_or (number_to program most_zones word) Usage
+drill_number program operands = Err Usage

@@ -13,6 +13,7 @@ use crate::command::Command;
 use crate::fault::LineFault;
 use crate::line_option::LineOption;
 use crate::number::number_to;
+use crate::program::Program;
 use clap::error::ErrorKind;
 use clap::{Arg, ArgAction, ArgMatches, Error};
 use std::alloc::{AllocError, Global};
@@ -95,11 +96,17 @@ fn with_option<'a>(
 }
 
 /// The number of an option.
-pub(crate) fn number(matches: &ArgMatches<'_>, option: LineOption) -> Result<u32, LineFault>
-    ensures { result ≡ number_by option (value_given option (arguments_in matches.now)) }
+pub(crate) fn number(
+    program: Program,
+    matches: &ArgMatches<'_>,
+    option: LineOption,
+) -> Result<u32, LineFault>
+    ensures { result ≡ number_by program option (value_given option (arguments_in matches.now)) }
 {
     match matches.get_str(option.name()) {
-        None => Ok(option.unsaid()),
-        Some(value) => number_to(option.most(), value.as_bytes()).ok_or(LineFault::Usage),
+        None => Ok(option.unsaid(program)),
+        Some(value) => {
+            number_to(program, option.most(program), value.as_bytes()).ok_or(LineFault::Usage)
+        }
     }
 }

@@ -3,13 +3,14 @@
 ghost use Rattle.std.specs.Prelude.{map};
 ghost use Rattle.dns_data.specs.Answers.{AnswersOr};
 ghost use Rattle.groot_line.specs.Matches.{arguments_in};
-ghost use Rattle.groot_line.specs.Job.{job_of, job_by, asked, asked_scope};
+ghost use Rattle.groot_line.specs.Job.{job_of, job_asked, job_by, asked, asked_scope};
 
 use crate::arguments::{number, read_arguments};
 use crate::command::Command;
 use crate::fault::LineFault;
 use crate::line_option::LineOption;
 use crate::operands::{asked_file, asked_name, asked_type, drill_number, only_meta, two_files};
+use crate::program::Program;
 use clap::ArgMatches;
 use dns_data::{Name, RrType, Text};
 use std::alloc::Global;
@@ -53,9 +54,16 @@ pub enum Task {
     },
 }
 
-/// The job that the words ask for. It is `Usage` exactly for the words that the format doesn't have.
+/// The job that the words ask of `groot`, as of `read_words_of`.
 pub fn read_words(alloc: Global, words: &[&str]) -> Result<Job, LineFault>
     ensures { AnswersOr LineFault.NoMemory result (job_of (map (λ word. word.now) words.now)) }
+{
+    read_words_of(alloc, Program::Groot, words)
+}
+
+/// The job that the words ask of the program. It is `Usage` exactly for the words that the format doesn't have.
+pub fn read_words_of(alloc: Global, program: Program, words: &[&str]) -> Result<Job, LineFault>
+    ensures { AnswersOr LineFault.NoMemory result (job_asked program (map (λ word. word.now) words.now)) }
 {
     let [first, words @ ..] = words else {
         return Err(LineFault::Usage);
@@ -64,33 +72,38 @@ pub fn read_words(alloc: Global, words: &[&str]) -> Result<Job, LineFault>
         return Err(LineFault::Usage);
     };
     let matches = read_arguments(alloc, command, words)?;
-    job_by(alloc, command, &matches)
+    job_by(alloc, program, command, &matches)
 }
 
 /// The job of a command and the words behind it.
-fn job_by(alloc: Global, command: Command, matches: &ArgMatches<'_>) -> Result<Job, LineFault>
-    ensures { AnswersOr LineFault.NoMemory result (job_by command (arguments_in matches.now)) }
+fn job_by(
+    alloc: Global,
+    program: Program,
+    command: Command,
+    matches: &ArgMatches<'_>,
+) -> Result<Job, LineFault>
+    ensures { AnswersOr LineFault.NoMemory result (job_by program command (arguments_in matches.now)) }
 {
     let operands = matches.get_strs("operands").unwrap_or(&[]);
     match command {
         Command::Check => Ok(Job::OfConfig {
             meta: only_meta(alloc, operands)?,
             task: Task::Check {
-                workers: number(matches, LineOption::Workers)?,
-                classes: number(matches, LineOption::Classes)?,
-                rewrites: number(matches, LineOption::Rewrites)?,
+                workers: number(program, matches, LineOption::Workers)?,
+                classes: number(program, matches, LineOption::Classes)?,
+                rewrites: number(program, matches, LineOption::Rewrites)?,
             },
         }),
         Command::Ask => asked(alloc, operands),
         Command::Classes => Ok(Job::OfConfig {
             meta: only_meta(alloc, operands)?,
             task: Task::Classes {
-                classes: number(matches, LineOption::Classes)?,
+                classes: number(program, matches, LineOption::Classes)?,
             },
         }),
         Command::Drill => Ok(Job::Drill {
-            n: drill_number(operands)?,
-            workers: number(matches, LineOption::Workers)?,
+            n: drill_number(program, operands)?,
+            workers: number(program, matches, LineOption::Workers)?,
         }),
         Command::Site => Ok(Job::OfConfig {
             meta: only_meta(alloc, operands)?,

@@ -3,11 +3,10 @@
 ghost use Rattle.std.specs.Prelude.{◌≡◌};
 ghost use Rattle.groot_line.specs.LineOption.{option_name, most_of, default_of};
 
+use crate::program::Program;
+
 /// How many workers judge, where the words say no other number.
 pub const USUAL_WORKERS: u32 = 4;
-
-/// How many names the class tree may have, where the words say no other number.
-pub const USUAL_NAMES: u32 = 100_000;
 
 /// How many rewrites a query may use, where the words say no other number.
 pub const USUAL_REWRITES: u32 = 12;
@@ -36,23 +35,23 @@ impl LineOption {
     }
 
     /// The most that the option's number may be.
-    pub(crate) fn most(&self) -> u32
-        ensures { result ≡ most_of self.now }
+    pub(crate) fn most(&self, program: Program) -> u32
+        ensures { result ≡ most_of program self.now }
     {
         match self {
             LineOption::Workers => 64,
-            LineOption::Classes => 1_000_000,
+            LineOption::Classes => program.most_names(),
             LineOption::Rewrites => 64,
         }
     }
 
     /// The number where the words don't say it.
-    pub(crate) fn unsaid(&self) -> u32
-        ensures { result ≡ default_of self.now }
+    pub(crate) fn unsaid(&self, program: Program) -> u32
+        ensures { result ≡ default_of program self.now }
     {
         match self {
             LineOption::Workers => USUAL_WORKERS,
-            LineOption::Classes => USUAL_NAMES,
+            LineOption::Classes => program.usual_names(),
             LineOption::Rewrites => USUAL_REWRITES,
         }
     }

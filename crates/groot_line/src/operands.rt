@@ -6,6 +6,7 @@ ghost use Rattle.groot_line.specs.Operands.{asked_file, asked_name, asked_type, 
 
 use crate::fault::LineFault;
 use crate::number::number_to;
+use crate::program::Program;
 use dns_data::{Name, NameFault, RrType, Text};
 use std::alloc::Global;
 
@@ -66,13 +67,13 @@ pub(crate) fn asked_type(word: &str) -> Result<RrType, LineFault>
 }
 
 /// The number of zones of a drill, if the word for it is the only operand.
-pub(crate) fn drill_number(operands: &[&str]) -> Result<u32, LineFault>
-    ensures { result ≡ drill_number (map (λ word. word.now) operands.now) }
+pub(crate) fn drill_number(program: Program, operands: &[&str]) -> Result<u32, LineFault>
+    ensures { result ≡ drill_number program (map (λ word. word.now) operands.now) }
 {
     let [word] = operands else {
         return Err(LineFault::Usage);
     };
-    match number_to(MOST_ZONES, word.as_bytes()) {
+    match number_to(program, MOST_ZONES, word.as_bytes()) {
         Some(number) => Ok(number),
         None => Err(LineFault::Usage),
     }

@@ -5,7 +5,7 @@ use Rattle.std.specs.declared.cmp.Ordering.{Ordering}
 use Rattle.std.proofs.lemmas.Bool.{cases_lt}
 use Rattle.std.proofs.lemmas.List.{length-map}
 use Rattle.dns_data.specs.Name.{Labels}
-use Rattle.groot_line.specs.LineOption.{most_names}
+use Rattle.groot_line.specs.Program.{largest_names}
 use Rattle.verdict_book.specs.Items.{AreReachedItems, ReachesMore}
 use Rattle.verdict_book.specs.Lists.{IsWholeTree}
 use Rattle.verdict_book.specs.declared.filed.Filed.{Filed}
@@ -24,7 +24,7 @@ no_longer first children most items are few =
 
 -- the list of a run is short enough for a judge
 pub list_is_short : {W I V : Type 0} (first : I) (children_of : I → List I) (limit : ℕ) (cmp : I → I → Ordering) (verdict_of : I → V)
-    (list : List (Filed W I V)) → limit ≤ most_names → IsWholeTree cmp first children_of verdict_of list → (ReachesMore first children_of limit → ⊥)
+    (list : List (Filed W I V)) → limit ≤ largest_names → IsWholeTree cmp first children_of verdict_of list → (ReachesMore first children_of limit → ⊥)
     → length list < 2 ^ 31
 list_is_short {W} {I} {V} first children_of limit cmp verdict_of list within whole few =
     let item = λ (filed : Filed W I V). filed.item in

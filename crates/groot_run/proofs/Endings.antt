@@ -1,12 +1,13 @@
 -- How the run of a job ends is how the run of its words ends.
 use Rattle.std.proofs.Common.{◌≡◌, ◌≢◌, ℕ, List, [], ◌∷◌, Result, Ok, Err, sym, subst, inl, inr, refl}
 use Rattle.std.specs.Prelude.{◌⊎◌, IsTrue, codes}
-use Rattle.config_load.specs.Conf.{conf}
+use Rattle.config_load.specs.Conf.{conf_within}
 use Rattle.config_load.specs.Faults.{FailedAt}
-use Rattle.config_load.specs.Load.{FailedWhereItCame, Gives, NoReadFailed}
+use Rattle.config_load.specs.Load.{FailedWhereItCame, Gives, NoFailureIn}
 use Rattle.config_load.specs.Reading.{Reading, Reads, Refuses, Misses, Unknown, file_octets}
 use Rattle.config_load.specs.declared.fault.LoadFault.{LoadFault}
 use Rattle.config_load.specs.declared.fault.LoadFault.TheVariants as load_faults
+use Rattle.config_load.specs.declared.limits.Limits.{Limits}
 use Rattle.dns_data.specs.declared.rr_type.RrType.{RrType}
 use Rattle.graph_form.specs.Report.{Subject}
 use Rattle.graph_form.specs.declared.report.ReportEntry.{ReportEntry}
@@ -15,6 +16,8 @@ use Rattle.groot_line.specs.declared.job.Job.{Job}
 use Rattle.groot_line.specs.declared.job.Job.TheVariants as jobs
 use Rattle.groot_line.specs.declared.job.Task.{Task}
 use Rattle.groot_line.specs.declared.job.Task.TheVariants as tasks
+use Rattle.groot_line.specs.declared.program.Program.{Program}
+use Rattle.groot_line.specs.Program.{usual_names}
 use Rattle.io_edges.specs.Counts.{Rose}
 use Rattle.io_edges.specs.Files.{FilesTold}
 use Rattle.net_model.specs.declared.config.Config.{Config}
@@ -36,31 +39,33 @@ use Rattle.zone_maker.specs.Source.{drill_told}
 use Rattle.run_endings.specs.declared.ending.Ending.{Ending}
 use Rattle.run_endings.specs.declared.status.Status.{Status}
 use Rattle.run_endings.specs.declared.status.Status.TheVariants.{Clean, Faults, ReadFault, WriteFault}
-use Rattle.run_endings.specs.Ends.{IsNotLoaded}
+use Rattle.run_endings.specs.Ends.{EndsWithout, IsNotLoaded}
 use Rattle.groot_run.specs.Counted.{EndsPast}
 use Rattle.groot_run.specs.JobEnds.{JobEnds, EndsOverConfig, EndsWithoutConfig}
 use Rattle.run_endings.specs.Endings.{OfReading, writes_nothing, no_memory}
-use Rattle.groot_run.specs.Outcome.{status_of, HasMoreNames, WithinBudgets, WithinNames, WithinStates, IsReported, Checks, ListsClasses, IsAnswerWith, Asks, IsDrilled, Drills, drill_names, drill_rewrites, TellsFindings, site_names, site_rewrites, answered_to, IsRechecked, Rechecks, GivesOf, Outcome, IsEnding, JobComesTo, NoJobReadFailed, Compares, ComparesWith, HasMoreNamesInBoth, IsCompared, compared_of, same_names, told_same, HasMoreNamesAt, IsScoped, ScopesSubject, scope_names, scope_of}
+use Rattle.groot_run.specs.Outcome.{status_of, HasMoreNames, WithinBudgets, WithinNames, WithinStates, IsReported, Checks, ListsClasses, IsAnswerWith, Asks, IsDrilled, Drills, drill_rewrites, TellsFindings, site_rewrites, answered_to, IsRechecked, Rechecks, GivesOf, Outcome, IsEnding, JobComesTo, NoJobReadFailed, Compares, ComparesWith, HasMoreNamesInBoth, IsCompared, compared_of, told_same, HasMoreNamesAt, IsScoped, ScopesSubject, scope_of}
+use Rattle.groot_run.specs.Programs.{conf_of, limits_of}
 
 -- ---- by what the files give
 
 -- a fault of loading says how the run ends
-pub not_loaded : (told : FilesTold) (before after : List ℕ → ℕ) (meta : List ℕ) (fault : LoadFault) (ending : Ending)
-    → Gives {T = Config} (conf meta told) (Err fault) → FailedWhereItCame {T = Config} (conf meta) told (Err fault) → FailedAt {T = Config} before after (Err fault)
-    → IsNotLoaded meta fault ending ⊎ (ending ≡ no_memory) → EndsWithoutConfig meta told before after ending
-not_loaded told before after meta fault ending gives came failed (inr ran_out) = inr (inr ran_out)
-not_loaded told before after meta (load_faults.Read file) ending gives came failed (inl is) = inr (inl (file, is, came, failed))
-not_loaded told before after meta load_faults.NoMemory ending gives came failed (inl is) = inr (inr is)
-not_loaded told before after meta fault ending gives came failed (inl is) = inl (fault, gives, is)
+pub not_loaded : (limits : Limits) (told : FilesTold) (before after : List ℕ → ℕ) (meta : List ℕ) (fault : LoadFault) (ending : Ending)
+    → Gives {T = Config} (conf_within limits meta told) (Err fault) → FailedWhereItCame {T = Config} (conf_within limits meta) told (Err fault)
+    → FailedAt {T = Config} before after (Err fault) → IsNotLoaded meta fault ending ⊎ (ending ≡ no_memory)
+    → EndsWithout {T = Config} meta (conf_within limits meta) told before after ending
+not_loaded limits told before after meta fault ending gives came failed (inr ran_out) = inr (inr ran_out)
+not_loaded limits told before after meta (load_faults.Read file) ending gives came failed (inl is) = inr (inl (file, is, came, failed))
+not_loaded limits told before after meta load_faults.NoMemory ending gives came failed (inl is) = inr (inr is)
+not_loaded limits told before after meta fault ending gives came failed (inl is) = inl (fault, gives, is)
 
-module _ (told : FilesTold) (before after : List ℕ → ℕ) (of_config : Config → Ending → Type 0) (meta : List ℕ) (ending : Ending) where
+module _ (program : Program) (told : FilesTold) (before after : List ℕ → ℕ) (of_config : Config → Ending → Type 0) (meta : List ℕ) (ending : Ending) where
   -- a run that read its configuration ends as the configuration says, or because memory ran out
-  pub over_config : (config : Config) → conf meta told ≡ Reads config → of_config config ending ⊎ (ending ≡ no_memory) → EndsOverConfig meta of_config told before after ending
+  pub over_config : (config : Config) → conf_of program meta told ≡ Reads config → of_config config ending ⊎ (ending ≡ no_memory) → EndsOverConfig program meta of_config told before after ending
   over_config config reads (inl gives) = inl (subst (λ (read : Reading Config). OfReading meta of_config read ending) (sym reads) gives)
   over_config config reads (inr ran_out) = inr (inr ran_out)
 
   -- how a run ends whose files give no configuration is how one over the files of the metadata ends
-  pub over_none : EndsWithoutConfig meta told before after ending → EndsOverConfig meta of_config told before after ending
+  pub over_none : EndsWithoutConfig program meta told before after ending → EndsOverConfig program meta of_config told before after ending
   over_none (inl (fault, refuses, is)) = inl (subst (λ (read : Reading Config). OfReading meta of_config read ending) (sym refuses) is)
   over_none (inr failed) = inr failed
 
@@ -72,13 +77,13 @@ without_rows config limit P ending (inr ran_out) = inr ran_out
 
 -- ---- the clauses
 
-module _ (told : FilesTold) (said : Result Job LineFault) (sites : List Site) (before after : List ℕ → ℕ) where
+module _ (program : Program) (told : FilesTold) (said : Result Job LineFault) (sites : List Site) (before after : List ℕ → ℕ) where
   -- What the status of a run says, and whether out gets something: a failed read is of a file to which the job comes and
   -- whose count rose, and no output has failed.
   abbrev Says : Status → List ℕ → Type 0
   Says Clean out = Unit {0}
   Says Faults out = Unit {0}
-  Says (ReadFault file) out = (JobComesTo told said file × Rose (before file) (after file)) × (out ≡ [])
+  Says (ReadFault file) out = (JobComesTo program told said file × Rose (before file) (after file)) × (out ≡ [])
   Says WriteFault out = ⊥
   Says other out = out ≡ []
 
@@ -101,14 +106,14 @@ module _ (told : FilesTold) (said : Result Job LineFault) (sites : List Site) (b
       let subject = whole_config config rewrites in
       within limit (HasMoreNames config limit) (IsFirstPassed subject most_states) (SomeClassPasses subject most_states → ⊥)
 
-  of_scope : (subject : Subject) (ending : Ending) → ScopesSubject subject sites ending → Tells ending
-  of_scope subject ending =
-      within scope_names (HasMoreNamesAt subject scope_names) (IsRefusedFor subject most_states) (NonePasses subject most_states) (IsScoped subject sites ending) ending
+  of_scope : (limit : ℕ) (subject : Subject) (ending : Ending) → ScopesSubject limit subject sites ending → Tells ending
+  of_scope limit subject ending =
+      within limit (HasMoreNamesAt subject limit) (IsRefusedFor subject most_states) (NonePasses subject most_states) (IsScoped subject sites ending) ending
       (λ is. subst Tells (sym is.as_text) (of_entries is.report.entries _))
 
-  a_comparison : (two : Compared) (ending : Ending) → Compares two ending → Tells ending
-  a_comparison two ending =
-      within same_names (HasMoreNamesInBoth two same_names) (IsFirstPassedInOne two) (SomeClassPassesInOne two → ⊥) (IsCompared two ending) ending
+  a_comparison : (limit : ℕ) (two : Compared) (ending : Ending) → Compares limit two ending → Tells ending
+  a_comparison limit two ending =
+      within limit (HasMoreNamesInBoth two limit) (IsFirstPassedInOne two) (SomeClassPassesInOne two → ⊥) (IsCompared two ending) ending
       (λ is. by is.sameness is.as_line)
     where
       by : (sameness : Sameness) → ending ≡ told_same sameness → Tells ending
@@ -142,73 +147,74 @@ module _ (told : FilesTold) (said : Result Job LineFault) (sites : List Site) (b
   of_reading name of_value ending of (Misses file) ends = absurd ends
   of_reading name of_value ending of (Unknown file) ends = absurd ends
 
-  of_task : (task : Task) (ending : Ending) (config : Config) → GivesOf task sites config ending → Tells ending
+  of_task : (task : Task) (ending : Ending) (config : Config) → GivesOf program task sites config ending → Tells ending
   of_task (tasks.Check workers classes rewrites) ending config =
       of_classes config classes rewrites (IsReported config rewrites ending) ending (λ is. subst Tells (sym is.as_text) (of_entries is.report.entries _))
   of_task (tasks.Ask name rtype) ending config = an_answer name rtype config ending
   of_task (tasks.Classes classes) ending config = a_list classes config ending
   of_task tasks.Site ending config =
-      of_classes config site_names site_rewrites (TellsFindings config sites ending) ending (λ are. subst Tells (sym are.as_text) tt)
+      of_classes config (usual_names program) site_rewrites (TellsFindings config sites ending) ending (λ are. subst Tells (sym are.as_text) tt)
   of_task (tasks.Scope name) ending config =
-      of_scope (scope_of config name) ending
+      of_scope (usual_names program) (scope_of config name) ending
 
-  of_outcome : (files : FilesTold) (job : Result Job LineFault) (ending : Ending) → Outcome files job sites ending → Tells ending
-  of_outcome files (Ok (jobs.OfConfig meta task)) ending = of_reading meta (GivesOf task sites) ending (of_task task ending) (conf meta files)
+  of_outcome : (files : FilesTold) (job : Result Job LineFault) (ending : Ending) → Outcome program files job sites ending → Tells ending
+  of_outcome files (Ok (jobs.OfConfig meta task)) ending = of_reading meta (GivesOf program task sites) ending (of_task task ending) (conf_of program meta files)
   of_outcome files (Ok (jobs.Drill zones workers)) ending =
-      of_reading (codes "meta.json") (Drills zones) ending
-      (λ config. of_classes config drill_names drill_rewrites (IsDrilled zones config ending) ending (λ is. subst Tells (sym is.as_line) (of_entries is.report.entries _)))
-      (conf (codes "meta.json") (drill_told zones))
+      of_reading (codes "meta.json") (Drills (usual_names program) zones) ending
+      (λ config. of_classes config (usual_names program) drill_rewrites (IsDrilled zones config ending) ending (λ is. subst Tells (sym is.as_line) (of_entries is.report.entries _)))
+      (conf_of program (codes "meta.json") (drill_told zones))
   of_outcome files (Ok (jobs.Recheck meta report)) ending =
-      of_reading meta (Rechecks files report) ending
-      (λ config. of_reading report (IsRechecked report config) ending (λ octets. the_answer report config octets ending) (file_octets report files))
-      (conf meta files)
+      of_reading meta (Rechecks program files report) ending
+      (λ config. of_reading report (IsRechecked report config) ending (λ octets. the_answer report config octets ending) (file_octets (limits_of program) report files))
+      (conf_of program meta files)
   of_outcome files (Ok (jobs.Same first second)) ending =
-      of_reading first (ComparesWith files second) ending
-      (λ config. of_reading second (λ other. Compares (compared_of config other)) ending (λ other. a_comparison (compared_of config other) ending) (conf second files))
-      (conf first files)
+      of_reading first (ComparesWith program files second) ending
+      (λ config. of_reading second (λ other. Compares (usual_names program) (compared_of config other)) ending
+      (λ other. a_comparison (usual_names program) (compared_of config other) ending) (conf_of program second files))
+      (conf_of program first files)
   of_outcome files (Err fault) ending = λ is. subst Tells (sym is) refl
 
-  module _ (job : Job) (is_job : said ≡ Ok job) (ending : Ending) (ended : JobEnds told (Ok job) sites before after ending) where
-    ends : JobEnds told said sites before after ending
-    ends = subst (λ (other : Result Job LineFault). JobEnds told other sites before after ending) (sym is_job) ended
+  module _ (job : Job) (is_job : said ≡ Ok job) (ending : Ending) (ended : JobEnds program told (Ok job) sites before after ending) where
+    ends : JobEnds program told said sites before after ending
+    ends = subst (λ (other : Result Job LineFault). JobEnds program told other sites before after ending) (sym is_job) ended
 
     tells : Tells ending
     tells = by ends where
-      by : JobEnds told said sites before after ending → Tells ending
+      by : JobEnds program told said sites before after ending → Tells ending
       by (inl outcome) = of_outcome told said ending outcome
       by (inr (inl (file, is, comes, rose))) = subst Tells (sym is) ((comes, rose), refl)
       by (inr (inr is)) = subst Tells (sym is) refl
 
     -- where no read of a job's files failed, its run has the job's outcome, or ends because memory ran out
-    pub complete : NoJobReadFailed told said before after → Outcome told said sites ending ⊎ (ending ≡ no_memory)
+    pub complete : NoJobReadFailed program told said before after → Outcome program told said sites ending ⊎ (ending ≡ no_memory)
     complete none = by ends where
-      by : JobEnds told said sites before after ending → Outcome told said sites ending ⊎ (ending ≡ no_memory)
+      by : JobEnds program told said sites before after ending → Outcome program told said sites ending ⊎ (ending ≡ no_memory)
       by (inl outcome) = inl outcome
       by (inr (inl (file, is, comes, rose))) = absurd (none file comes rose)
       by (inr (inr is)) = inr is
 
     -- where no read failed, the check of a configuration that was read ends as such checks do, or because memory ran out
     pub headline : (meta : List ℕ) (workers classes rewrites : ℕ) (config : Config)
-        → said ≡ Ok (jobs.OfConfig meta (tasks.Check workers classes rewrites)) → conf meta told ≡ Reads config → NoReadFailed meta told before after
+        → said ≡ Ok (jobs.OfConfig meta (tasks.Check workers classes rewrites)) → conf_of program meta told ≡ Reads config → NoFailureIn (conf_of program meta) told before after
         → Checks classes rewrites config ending ⊎ (ending ≡ no_memory)
     headline meta workers classes rewrites config is reads none =
-        by (complete (subst (λ (other : Result Job LineFault). NoJobReadFailed told other before after) (sym is) none)) where
-          by : Outcome told said sites ending ⊎ (ending ≡ no_memory) → Checks classes rewrites config ending ⊎ (ending ≡ no_memory)
+        by (complete (subst (λ (other : Result Job LineFault). NoJobReadFailed program told other before after) (sym is) none)) where
+          by : Outcome program told said sites ending ⊎ (ending ≡ no_memory) → Checks classes rewrites config ending ⊎ (ending ≡ no_memory)
           by (inl outcome) =
               inl (subst (λ (read : Reading Config). OfReading meta (Checks classes rewrites) read ending) reads
-              (subst (λ (other : Result Job LineFault). Outcome told other sites ending) is outcome))
+              (subst (λ (other : Result Job LineFault). Outcome program told other sites ending) is outcome))
           by (inr ran_out) = inr ran_out
 
     -- a job's run has the job's outcome, or ends for an unread file or `NoMemory`
-    pub cause : IsEnding told said sites ending
+    pub cause : IsEnding program told said sites ending
     cause = by ends where
-      by : JobEnds told said sites before after ending → IsEnding told said sites ending
+      by : JobEnds program told said sites before after ending → IsEnding program told said sites ending
       by (inl outcome) = inl outcome
       by (inr (inl (file, is, comes, rose))) = inr (inl (file, is))
       by (inr (inr is)) = inr (inr is)
 
     -- where a job's run ends for a file that couldn't be read, the job comes to it, and a read of it failed meanwhile
-    pub read_fault : (file : List ℕ) → ending.status ≡ ReadFault file → JobComesTo told said file × Rose (before file) (after file)
+    pub read_fault : (file : List ℕ) → ending.status ≡ ReadFault file → JobComesTo program told said file × Rose (before file) (after file)
     read_fault file is = (subst (λ (status : Status). Says status ending.out) is tells).0
 
     -- no job's run ends since something couldn't be written

@@ -3,6 +3,7 @@ use Rattle.std.proofs.Common.{◌≡◌, List, [], map, Result, subst}
 use Rattle.std.specs.Prelude.{◌⊎◌}
 use Rattle.groot_line.specs.declared.fault.LineFault.{LineFault}
 use Rattle.groot_line.specs.declared.job.Job.{Job}
+use Rattle.groot_line.specs.declared.program.Program.{Program}
 use Rattle.io_edges.specs.Files.{FilesTold}
 use Rattle.net_model.specs.declared.config.Config.{Config}
 use Rattle.site_checks.specs.Views.{Site}
@@ -18,6 +19,6 @@ of_the_config config other sites ending same =
     subst (λ (one : Config). WithinStates one site_rewrites (TellsFindings one sites ending) ending ⊎ (ending ≡ no_memory)) same
 
 -- if no check is handed in, the job gives what it gives without checks
-pub without_checks : {B : Type 0} (means : B → Site) (all : List B) → all ≡ [] → (told : FilesTold) (job : Result Job LineFault) (ending : Ending)
-    → Outcome told job (map means all) ending → Outcome told job [] ending
-without_checks {B} means all none told job ending = subst (λ (bs : List B). Outcome told job (map means bs) ending) none
+pub without_checks : {B : Type 0} (means : B → Site) (all : List B) → all ≡ [] → (program : Program) (told : FilesTold) (job : Result Job LineFault) (ending : Ending)
+    → Outcome program told job (map means all) ending → Outcome program told job [] ending
+without_checks {B} means all none program told job ending = subst (λ (bs : List B). Outcome program told job (map means bs) ending) none

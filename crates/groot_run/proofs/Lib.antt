@@ -15,6 +15,7 @@ mod PrintedLines
 pub mod PassedNames
 pub mod Places
 pub mod Rechecked
+pub mod SameWords
 pub mod ShownClasses
 pub mod SiteViews
 pub mod TwoReadings

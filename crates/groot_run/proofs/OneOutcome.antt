@@ -11,17 +11,19 @@ use Rattle.site_checks.proofs.OneViews.{one_list_of_views}
 use Rattle.net_model.specs.Reading.{ground_of}
 use Rattle.net_model.specs.Step.{following}
 use Rattle.query_verdicts.specs.Carried.{whole_config}
-use Rattle.config_load.specs.Conf.{conf}
 use Rattle.config_load.specs.Reading.{Reading, Reads, Refuses, Misses, Unknown, file_octets}
 use Rattle.groot_line.specs.declared.fault.LineFault.{LineFault}
 use Rattle.groot_line.specs.declared.job.Job.{Job}
 use Rattle.groot_line.specs.declared.job.Job.TheVariants as jobs
 use Rattle.groot_line.specs.declared.job.Task.{Task}
 use Rattle.groot_line.specs.declared.job.Task.TheVariants as tasks
+use Rattle.groot_line.specs.declared.program.Program.{Program}
+use Rattle.groot_line.specs.Program.{usual_names}
 use Rattle.plain_resolver.specs.Passed.{most_walks_followed}
 use Rattle.run_endings.specs.declared.ending.Ending.{Ending}
 use Rattle.run_endings.specs.Endings.{OfReading, too_many_to_learn}
-use Rattle.groot_run.specs.Outcome.{reported, listed, HasMoreNames, WithinNames, WithinStates, IsReported, Checks, IsClassList, ListsClasses, ask_rewrites, IsAnswerWith, Asks, walks_written, GivesOf, Outcome, Drills, IsDrilled, drilled, drill_names, drill_rewrites, answered_to, IsRechecked, Rechecks, TellsFindings, ShowsClasses, told_of_views, site_names, site_rewrites, Compares, ComparesWith, HasMoreNamesInBoth, IsCompared, compared_of, same_names, told_same, HasMoreNamesAt, IsScoped, ScopesSubject, scope_names, scope_of, scope_written}
+use Rattle.groot_run.specs.Outcome.{reported, listed, HasMoreNames, WithinNames, WithinStates, IsReported, Checks, IsClassList, ListsClasses, ask_rewrites, IsAnswerWith, Asks, walks_written, GivesOf, Outcome, Drills, IsDrilled, drilled, drill_rewrites, answered_to, IsRechecked, Rechecks, TellsFindings, ShowsClasses, told_of_views, site_rewrites, Compares, ComparesWith, HasMoreNamesInBoth, IsCompared, compared_of, told_same, HasMoreNamesAt, IsScoped, ScopesSubject, scope_of, scope_written}
+use Rattle.groot_run.specs.Programs.{conf_of, limits_of}
 use Rattle.report_check.proofs.OneAnswer.{only_answer}
 use Rattle.same_answers.specs.Compared.{Compared}
 use Rattle.same_answers.specs.Passed.{IsFirstPassedInOne, SomeClassPassesInOne}
@@ -60,27 +62,27 @@ one_check limit rewrites config a b =
     one_within_states config limit rewrites (IsReported config rewrites a) (IsReported config rewrites b) a b
     (λ p q. p.as_text ∙ ap reported (one_report (whole_config config rewrites) p.report q.report p.is_report q.is_report) ∙ sym q.as_text)
 
-one_drill : (zones : ℕ) (config : Config) (a b : Ending) → Drills zones config a → Drills zones config b → a ≡ b
-one_drill zones config a b =
-    one_within_states config drill_names drill_rewrites (IsDrilled zones config a) (IsDrilled zones config b) a b
+one_drill : (limit zones : ℕ) (config : Config) (a b : Ending) → Drills limit zones config a → Drills limit zones config b → a ≡ b
+one_drill limit zones config a b =
+    one_within_states config limit drill_rewrites (IsDrilled zones config a) (IsDrilled zones config b) a b
     (λ p q. p.as_line ∙ ap (drilled zones config) (one_report (whole_config config drill_rewrites) p.report q.report p.is_report q.is_report) ∙ sym q.as_line)
 
-one_told : (sites : List Site) (config : Config) (a b : Ending) → ShowsClasses sites config a → ShowsClasses sites config b → a ≡ b
-one_told sites config a b =
-    one_within_states config site_names site_rewrites (TellsFindings config sites a) (TellsFindings config sites b) a b
+one_told : (limit : ℕ) (sites : List Site) (config : Config) (a b : Ending) → ShowsClasses limit sites config a → ShowsClasses limit sites config b → a ≡ b
+one_told limit sites config a b =
+    one_within_states config limit site_rewrites (TellsFindings config sites a) (TellsFindings config sites b) a b
     (λ p q. p.as_text ∙ ap (told_of_views sites) (one_list_of_views (whole_config config site_rewrites) p.views q.views p.are_views q.are_views) ∙ sym q.as_text)
 
 -- two configurations that are compared give one thing
-one_comparison : (two : Compared) (a b : Ending) → Compares two a → Compares two b → a ≡ b
-one_comparison two a b =
-    one_within_budgets same_names (HasMoreNamesInBoth two same_names) (IsFirstPassedInOne two) (SomeClassPassesInOne two → ⊥)
+one_comparison : (limit : ℕ) (two : Compared) (a b : Ending) → Compares limit two a → Compares limit two b → a ≡ b
+one_comparison limit two a b =
+    one_within_budgets limit (HasMoreNamesInBoth two limit) (IsFirstPassedInOne two) (SomeClassPassesInOne two → ⊥)
     (one_passed_in_one two) (λ none query first. none (first.class, query, first.passes)) (IsCompared two a) (IsCompared two b) a b
     (λ p q. p.as_line ∙ ap told_same (one_sameness two p.sameness q.sameness p.is_sameness q.is_sameness) ∙ sym q.as_line)
 
 -- and so does a subject with its scope
-one_scope : (subject : Subject) (sites : List Site) (a b : Ending) → ScopesSubject subject sites a → ScopesSubject subject sites b → a ≡ b
-one_scope subject sites a b =
-    one_within_budgets scope_names (HasMoreNamesAt subject scope_names) (IsRefusedFor subject most_states) (NonePasses subject most_states)
+one_scope : (limit : ℕ) (subject : Subject) (sites : List Site) (a b : Ending) → ScopesSubject limit subject sites a → ScopesSubject limit subject sites b → a ≡ b
+one_scope limit subject sites a b =
+    one_within_budgets limit (HasMoreNamesAt subject limit) (IsRefusedFor subject most_states) (NonePasses subject most_states)
     (one_refusal subject most_states) (λ none query refused. none_refused subject most_states query none refused) (IsScoped subject sites a) (IsScoped subject sites b) a b
     (λ p q.
     p.as_text
@@ -125,32 +127,33 @@ one_by_reading name of_value one (Refuses fault) a b p q = p ∙ sym q
 one_by_reading name of_value one (Misses file) a b p q = absurd p
 one_by_reading name of_value one (Unknown file) a b p q = absurd p
 
-one_recheck : (told : FilesTold) (file : List ℕ) (config : Config) (a b : Ending) → Rechecks told file config a → Rechecks told file config b → a ≡ b
-one_recheck told file config a b =
+one_recheck : (program : Program) (told : FilesTold) (file : List ℕ) (config : Config) (a b : Ending) → Rechecks program told file config a → Rechecks program told file config b → a ≡ b
+one_recheck program told file config a b =
     one_by_reading file (IsRechecked file config)
     (λ octets one other p q. p.as_line ∙ ap (answered_to file) (only_answer config octets p.answer q.answer p.is_checked q.is_checked p.is_answered q.is_answered) ∙ sym q.as_line)
-    (file_octets file told) a b
+    (file_octets (limits_of program) file told) a b
 
-one_same : (told : FilesTold) (second : List ℕ) (config : Config) (a b : Ending) → ComparesWith told second config a → ComparesWith told second config b → a ≡ b
-one_same told second config a b =
-    one_by_reading second (λ other. Compares (compared_of config other)) (λ other. one_comparison (compared_of config other)) (conf second told) a b
+one_same : (program : Program) (told : FilesTold) (second : List ℕ) (config : Config) (a b : Ending) → ComparesWith program told second config a → ComparesWith program told second config b → a ≡ b
+one_same program told second config a b =
+    one_by_reading second (λ other. Compares (usual_names program) (compared_of config other)) (λ other. one_comparison (usual_names program) (compared_of config other))
+    (conf_of program second told) a b
 
 -- two outcomes of a task over the same configuration are equal
-one_of_task : (task : Task) (sites : List Site) (config : Config) (a b : Ending) → GivesOf task sites config a → GivesOf task sites config b → a ≡ b
-one_of_task (tasks.Check workers classes rewrites) sites = one_check classes rewrites
-one_of_task (tasks.Ask name rtype) sites = one_asked name rtype
-one_of_task (tasks.Classes classes) sites = one_list classes
-one_of_task tasks.Site sites = one_told sites
-one_of_task (tasks.Scope name) sites = λ config. one_scope (scope_of config name) sites
+one_of_task : (program : Program) (task : Task) (sites : List Site) (config : Config) (a b : Ending) → GivesOf program task sites config a → GivesOf program task sites config b → a ≡ b
+one_of_task program (tasks.Check workers classes rewrites) sites = one_check classes rewrites
+one_of_task program (tasks.Ask name rtype) sites = one_asked name rtype
+one_of_task program (tasks.Classes classes) sites = one_list classes
+one_of_task program tasks.Site sites = one_told (usual_names program) sites
+one_of_task program (tasks.Scope name) sites = λ config. one_scope (usual_names program) (scope_of config name) sites
 
 -- two outcomes of a job, by the same that is told of the files, are equal
-pub one_outcome : (told : FilesTold) (job : Result Job LineFault) (sites : List Site) (a b : Ending) → Outcome told job sites a → Outcome told job sites b → a ≡ b
-one_outcome told (Ok (jobs.OfConfig meta task)) sites a b =
-    one_by_reading meta (GivesOf task sites) (one_of_task task sites) (conf meta told) a b
-one_outcome told (Ok (jobs.Drill zones workers)) sites a b =
-    one_by_reading (codes "meta.json") (Drills zones) (one_drill zones) (conf (codes "meta.json") (drill_told zones)) a b
-one_outcome told (Ok (jobs.Recheck meta report)) sites a b =
-    one_by_reading meta (Rechecks told report) (one_recheck told report) (conf meta told) a b
-one_outcome told (Ok (jobs.Same first second)) sites a b =
-    one_by_reading first (ComparesWith told second) (one_same told second) (conf first told) a b
-one_outcome told (Err fault) sites a b = λ p q. p ∙ sym q
+pub one_outcome : (program : Program) (told : FilesTold) (job : Result Job LineFault) (sites : List Site) (a b : Ending) → Outcome program told job sites a → Outcome program told job sites b → a ≡ b
+one_outcome program told (Ok (jobs.OfConfig meta task)) sites a b =
+    one_by_reading meta (GivesOf program task sites) (one_of_task program task sites) (conf_of program meta told) a b
+one_outcome program told (Ok (jobs.Drill zones workers)) sites a b =
+    one_by_reading (codes "meta.json") (Drills (usual_names program) zones) (one_drill (usual_names program) zones) (conf_of program (codes "meta.json") (drill_told zones)) a b
+one_outcome program told (Ok (jobs.Recheck meta report)) sites a b =
+    one_by_reading meta (Rechecks program told report) (one_recheck program told report) (conf_of program meta told) a b
+one_outcome program told (Ok (jobs.Same first second)) sites a b =
+    one_by_reading first (ComparesWith program told second) (one_same program told second) (conf_of program first told) a b
+one_outcome program told (Err fault) sites a b = λ p q. p ∙ sym q

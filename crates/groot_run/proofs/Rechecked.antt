@@ -5,6 +5,7 @@ use Rattle.config_load.specs.Load.{ComesToFile, FailedWhereItCame, Gives}
 use Rattle.config_load.specs.Reading.{Reading, Reads, file_octets}
 use Rattle.config_load.specs.declared.fault.LoadFault.{LoadFault}
 use Rattle.config_load.specs.declared.fault.LoadFault.TheVariants as load_faults
+use Rattle.config_load.specs.declared.limits.Limits.{Limits}
 use Rattle.io_edges.specs.Files.{FilesTold}
 use Rattle.net_model.specs.declared.config.Config.{Config}
 use Rattle.report_check.specs.Checked.{IsChecked}
@@ -28,20 +29,20 @@ by_answer file config octets result answer ending is answered checked (inl line)
 by_answer file config octets result answer ending is answered checked (inr ran_out) = inr ran_out
 
 -- the file is read, and the run ends by its octets
-pub over_file : (told : FilesTold) (before after : List ℕ → ℕ) (name octets : List ℕ) (of_octets : List ℕ → Ending → Type 0) (ending : Ending)
-    → file_octets name told ≡ Reads octets → of_octets octets ending ⊎ (ending ≡ no_memory)
-    → EndsOrFails (OfReading name of_octets (file_octets name told) ending) (ComesToFile (file_octets name) told) before after ending
-over_file told before after name octets of_octets ending reads (inl ends) =
+pub over_file : (limits : Limits) (told : FilesTold) (before after : List ℕ → ℕ) (name octets : List ℕ) (of_octets : List ℕ → Ending → Type 0) (ending : Ending)
+    → file_octets limits name told ≡ Reads octets → of_octets octets ending ⊎ (ending ≡ no_memory)
+    → EndsOrFails (OfReading name of_octets (file_octets limits name told) ending) (ComesToFile (file_octets limits name) told) before after ending
+over_file limits told before after name octets of_octets ending reads (inl ends) =
     inl (subst (λ (read : Reading (List ℕ)). OfReading name of_octets read ending) (sym reads) ends)
-over_file told before after name octets of_octets ending reads (inr ran_out) = inr (inr ran_out)
+over_file limits told before after name octets of_octets ending reads (inr ran_out) = inr (inr ran_out)
 
 -- if the file isn't read, the run ends by the fault
-pub over_no_file : (told : FilesTold) (before after : List ℕ → ℕ) (name : List ℕ) (of_octets : List ℕ → Ending → Type 0) (fault : LoadFault) (ending : Ending)
-    → Gives {T = List ℕ} (file_octets name told) (Err fault) → FailedWhereItCame {T = List ℕ} (file_octets name) told (Err fault) → FailedAt {T = List ℕ} before after (Err fault)
+pub over_no_file : (limits : Limits) (told : FilesTold) (before after : List ℕ → ℕ) (name : List ℕ) (of_octets : List ℕ → Ending → Type 0) (fault : LoadFault) (ending : Ending)
+    → Gives {T = List ℕ} (file_octets limits name told) (Err fault) → FailedWhereItCame {T = List ℕ} (file_octets limits name) told (Err fault) → FailedAt {T = List ℕ} before after (Err fault)
     → IsNotLoaded name fault ending ⊎ (ending ≡ no_memory)
-    → EndsOrFails (OfReading name of_octets (file_octets name told) ending) (ComesToFile (file_octets name) told) before after ending
-over_no_file told before after name of_octets fault ending gives came failed (inr ran_out) = inr (inr ran_out)
-over_no_file told before after name of_octets (load_faults.Read file) ending gives came failed (inl is) = inr (inl (file, is, came, failed))
-over_no_file told before after name of_octets load_faults.NoMemory ending gives came failed (inl is) = inr (inr is)
-over_no_file told before after name of_octets fault ending gives came failed (inl is) =
+    → EndsOrFails (OfReading name of_octets (file_octets limits name told) ending) (ComesToFile (file_octets limits name) told) before after ending
+over_no_file limits told before after name of_octets fault ending gives came failed (inr ran_out) = inr (inr ran_out)
+over_no_file limits told before after name of_octets (load_faults.Read file) ending gives came failed (inl is) = inr (inl (file, is, came, failed))
+over_no_file limits told before after name of_octets load_faults.NoMemory ending gives came failed (inl is) = inr (inr is)
+over_no_file limits told before after name of_octets fault ending gives came failed (inl is) =
     inl (subst (λ (read : Reading (List ℕ)). OfReading name of_octets read ending) (sym gives) is)

@@ -2,7 +2,7 @@
 use Rattle.std.specs.Prelude.{◌≡◌, ◌⊎◌, ◌<◌, ◌≤◌, ℕ, Result, Ok, Err}
 use Rattle.graph_form.specs.Report.{IsReport, Subject}
 use Rattle.graph_form.specs.declared.report.Report.{Report}
-use Rattle.groot_line.specs.LineOption.{most_names}
+use Rattle.groot_line.specs.Program.{largest_names}
 use Rattle.query_verdicts.specs.Passed.{NonePasses}
 use Rattle.query_verdicts.specs.Queries.{most_states}
 use Rattle.run_endings.specs.declared.ending.Ending.{Ending}
@@ -14,7 +14,7 @@ use Rattle.groot_run.specs.Outcome.{HasMoreNamesAt, WithinSubject}
 pub record AreLimits (limits : CheckLimits) : Type 0 where
   pub workers : 0 < limits.workers
   pub classes : 0 < limits.classes
-  pub classes_most : limits.classes ≤ most_names
+  pub classes_most : limits.classes ≤ largest_names
   pub rewrites : 0 < limits.rewrites
 
 -- The report of the subject; or how a run ends that has none, since the subject has more names than the limit, or else a

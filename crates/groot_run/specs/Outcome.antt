@@ -15,8 +15,7 @@ use Rattle.net_model.specs.Reading.{ground_of}
 use Rattle.query_verdicts.specs.Carried.{whole_config}
 use Rattle.query_verdicts.specs.Passed.{SomeClassPasses, IsFirstPassed, IsRefusedFor, NonePasses}
 use Rattle.query_verdicts.specs.Queries.{most_states}
-use Rattle.config_load.specs.Conf.{conf}
-use Rattle.config_load.specs.Load.{ComesToFile, ReadingComesTo}
+use Rattle.config_load.specs.Load.{ComesToFile}
 use Rattle.config_load.specs.Reading.{both, file_octets}
 use Rattle.config_load.specs.Refusal.{fields_line}
 use Rattle.graph_form.specs.Report.{Subject, IsReport}
@@ -30,13 +29,15 @@ use Rattle.report_check.specs.declared.answer.CheckFault.{CheckFault}
 use Rattle.report_check.specs.declared.answer.CheckFault.TheVariants as check_faults
 use Rattle.report_json.specs.Ask.{ask_text}
 use Rattle.report_json.specs.Report.{report_text}
-use Rattle.groot_line.specs.LineOption.{usual_names, usual_rewrites}
+use Rattle.groot_line.specs.LineOption.{usual_rewrites}
+use Rattle.groot_line.specs.Program.{usual_names}
 use Rattle.groot_line.specs.Usage.{usage_line}
 use Rattle.groot_line.specs.declared.fault.LineFault.{LineFault}
 use Rattle.groot_line.specs.declared.job.Job.{Job}
 use Rattle.groot_line.specs.declared.job.Job.TheVariants as jobs
 use Rattle.groot_line.specs.declared.job.Task.{Task}
 use Rattle.groot_line.specs.declared.job.Task.TheVariants as tasks
+use Rattle.groot_line.specs.declared.program.Program.{Program}
 use Rattle.run_endings.specs.declared.ending.Ending.{Ending}
 use Rattle.run_endings.specs.declared.status.Status.{Status}
 use Rattle.run_endings.specs.Endings.{OfReading, with_output, without_output, read_failed, no_memory, too_many_names, too_many_states as too_many_states_than, too_many_to_learn}
@@ -54,6 +55,7 @@ use Rattle.report_json.specs.Sites.{sites_text, scope_text}
 use Rattle.site_checks.specs.Views.{AreViews, Site, told_by}
 use Rattle.site_checks.specs.declared.views.View.{View}
 use Rattle.groot_run.specs.DrillLine.{drill_line, record_count}
+use Rattle.groot_run.specs.Programs.{conf_of, limits_of}
 use Rattle.query_classes.specs.ClassList.{ListedClass, AreListed}
 use Rattle.groot_run.specs.ClassList.{class_list_text}
 
@@ -64,9 +66,9 @@ status_of (entry ∷ entries) = Faults
 
 -- ---- the ways to end
 
--- the words are no job
-abbrev pub usage : Ending
-usage = without_output Usage usage_line
+-- the words are no job of the program
+abbrev pub usage : Program → Ending
+usage program = without_output Usage (usage_line program)
 
 -- the ending if the query reaches more pairs of state and type than are looked at
 abbrev pub too_many_states : Labels → Ending
@@ -186,25 +188,17 @@ drilled zones config report =
 abbrev pub drill_rewrites : ℕ
 drill_rewrites = usual_rewrites
 
--- how many names the class tree of a drill may have
-abbrev pub drill_names : ℕ
-drill_names = usual_names
-
 -- the run ends with the line of the configuration's report
 pub record IsDrilled (zones : ℕ) (config : Config) (ending : Ending) : Type 0 where
   pub report : Report
   pub is_report : IsReport (whole_config config drill_rewrites) report
   pub as_line : ending ≡ drilled zones config report
 
--- what `drill` gives of the configuration of its files: the line, unless the class tree has too many names, or a
+-- what `drill` gives of the configuration of its files: the line, unless the class tree has more names than the limit, or a
 -- representative reaches too many pairs of state and type
-abbrev pub Drills : ℕ → Config → Ending → Type 0
-Drills zones config ending =
-    WithinNames config drill_names (WithinStates config drill_rewrites (IsDrilled zones config ending) ending) ending
-
--- how many names the class tree may have whose classes are shown to checks
-abbrev pub site_names : ℕ
-site_names = usual_names
+abbrev pub Drills : ℕ → ℕ → Config → Ending → Type 0
+Drills limit zones config ending =
+    WithinNames config limit (WithinStates config drill_rewrites (IsDrilled zones config ending) ending) ending
 
 -- how many rewrites a query of these classes may use
 abbrev pub site_rewrites : ℕ
@@ -216,11 +210,11 @@ pub record TellsFindings (config : Config) (sites : List Site) (ending : Ending)
   pub are_views : AreViews (whole_config config site_rewrites) views
   pub as_text : ending ≡ told_of_views sites views
 
--- what `site` gives of a configuration: what the checks tell, unless the class tree has too many names, or a representative
--- reaches too many pairs of state and type
-abbrev pub ShowsClasses : List Site → Config → Ending → Type 0
-ShowsClasses sites config ending =
-    WithinNames config site_names (WithinStates config site_rewrites (TellsFindings config sites ending) ending) ending
+-- what `site` gives of a configuration: what the checks tell, unless the class tree has more names than the limit, or a
+-- representative reaches too many pairs of state and type
+abbrev pub ShowsClasses : ℕ → List Site → Config → Ending → Type 0
+ShowsClasses limit sites config ending =
+    WithinNames config limit (WithinStates config site_rewrites (TellsFindings config sites ending) ending) ending
 
 -- ---- a report that is checked
 
@@ -257,14 +251,10 @@ pub record IsRechecked (file : List ℕ) (config : Config) (octets : List ℕ) (
   pub as_line : ending ≡ answered_to file answer
 
 -- what `recheck` gives of a configuration: the answer to the report in this file
-abbrev pub Rechecks : FilesTold → List ℕ → Config → Ending → Type 0
-Rechecks told file config ending = OfReading file (IsRechecked file config) (file_octets file told) ending
+abbrev pub Rechecks : Program → FilesTold → List ℕ → Config → Ending → Type 0
+Rechecks program told file config ending = OfReading file (IsRechecked file config) (file_octets (limits_of program) file told) ending
 
 -- ---- two configurations that are compared
-
--- how many names the class tree of both may have
-abbrev pub same_names : ℕ
-same_names = usual_names
 
 -- how many rewrites a query may use in each of them
 abbrev pub same_rewrites : ℕ
@@ -291,11 +281,11 @@ told_same (Apart query rtype) = one_differs query rtype
 abbrev pub HasMoreNamesInBoth : Compared → ℕ → Type 0
 HasMoreNamesInBoth two limit = HasMoreThan (IsInTree (joint two)) limit
 
--- What `same` gives of two configurations: where their class tree has no more names than it may, and no representative
+-- What `same` gives of two configurations: where their class tree has no more names than the limit, and no representative
 -- reaches more pairs of state and type than it may in one of them, the run ends so. Of those that do the first in class
 -- order is named.
-abbrev pub WithinBoth : Compared → Type 0 → Ending → Type 0
-WithinBoth two = WithinBudgets same_names (HasMoreNamesInBoth two same_names) (IsFirstPassedInOne two) (SomeClassPassesInOne two → ⊥)
+abbrev pub WithinBoth : Compared → ℕ → Type 0 → Ending → Type 0
+WithinBoth two limit = WithinBudgets limit (HasMoreNamesInBoth two limit) (IsFirstPassedInOne two) (SomeClassPassesInOne two → ⊥)
 
 -- the run ends with what is told of the two: that each query of at most 255 octets that both bound has the same
 -- outcomes in both with each type, or the first one that hasn't
@@ -306,18 +296,15 @@ pub record IsCompared (two : Compared) (ending : Ending) : Type 0 where
 
 -- what `same` gives of two configurations: what is told of them, unless too many names are there, or a query reaches
 -- too many pairs of state and type
-abbrev pub Compares : Compared → Ending → Type 0
-Compares two ending = WithinBoth two (IsCompared two ending) ending
+abbrev pub Compares : ℕ → Compared → Ending → Type 0
+Compares limit two ending = WithinBoth two limit (IsCompared two ending) ending
 
 -- what it gives of the first one: what is told of it and of the one that the second metadata file gives
-abbrev pub ComparesWith : FilesTold → List ℕ → Config → Ending → Type 0
-ComparesWith told second first ending = OfReading second (λ config. Compares (compared_of first config)) (conf second told) ending
+abbrev pub ComparesWith : Program → FilesTold → List ℕ → Config → Ending → Type 0
+ComparesWith program told second first ending =
+    OfReading second (λ config. Compares (usual_names program) (compared_of first config)) (conf_of program second told) ending
 
 -- ---- a scope
-
--- how many names a scope may have
-abbrev pub scope_names : ℕ
-scope_names = usual_names
 
 -- how many rewrites a query of a scope may use
 abbrev pub scope_rewrites : ℕ
@@ -345,51 +332,51 @@ pub record IsScoped (subject : Subject) (sites : List Site) (ending : Ending) : 
   pub are_views : AreViews subject views
   pub as_text : ending ≡ scope_written report subject.below sites views
 
--- what `scope` gives of a subject: the report and the findings, unless too many names are there, or a query there or a
--- server's name reaches too many pairs of state and type
-abbrev pub ScopesSubject : Subject → List Site → Ending → Type 0
-ScopesSubject subject sites ending = WithinSubject subject scope_names (IsScoped subject sites ending) ending
+-- what `scope` gives of a subject: the report and the findings, unless more names than the limit are there, or a query
+-- there or a server's name reaches too many pairs of state and type
+abbrev pub ScopesSubject : ℕ → Subject → List Site → Ending → Type 0
+ScopesSubject limit subject sites ending = WithinSubject subject limit (IsScoped subject sites ending) ending
 
 -- what `scope` gives of a configuration: of the queries at or below a name
-abbrev pub Scopes : Labels → List Site → Config → Ending → Type 0
-Scopes name sites config = ScopesSubject (scope_of config name) sites
+abbrev pub Scopes : ℕ → Labels → List Site → Config → Ending → Type 0
+Scopes limit name sites config = ScopesSubject limit (scope_of config name) sites
 
--- what a task gives of its configuration, by the checks that the operator brings
-abbrev pub GivesOf : Task → List Site → Config → Ending → Type 0
-GivesOf (tasks.Check workers classes rewrites) sites = Checks classes rewrites
-GivesOf (tasks.Ask name rtype) sites = Asks name rtype
-GivesOf (tasks.Classes classes) sites = ListsClasses classes
-GivesOf tasks.Site sites = ShowsClasses sites
-GivesOf (tasks.Scope name) sites = Scopes name sites
+-- what a task gives of its configuration, by the program and the checks that the operator brings
+abbrev pub GivesOf : Program → Task → List Site → Config → Ending → Type 0
+GivesOf program (tasks.Check workers classes rewrites) sites = Checks classes rewrites
+GivesOf program (tasks.Ask name rtype) sites = Asks name rtype
+GivesOf program (tasks.Classes classes) sites = ListsClasses classes
+GivesOf program tasks.Site sites = ShowsClasses (usual_names program) sites
+GivesOf program (tasks.Scope name) sites = Scopes (usual_names program) name sites
 
--- what the words' job gives, by what is told of the files, and by the checks that the operator brings; a drill reads
--- its own files
-abbrev pub Outcome : FilesTold → Result Job LineFault → List Site → Ending → Type 0
-Outcome told (Ok (jobs.OfConfig meta task)) sites ending = OfReading meta (GivesOf task sites) (conf meta told) ending
-Outcome told (Ok (jobs.Drill zones workers)) sites ending = OfReading (codes "meta.json") (Drills zones) (conf (codes "meta.json") (drill_told zones)) ending
-Outcome told (Ok (jobs.Recheck meta report)) sites ending = OfReading meta (Rechecks told report) (conf meta told) ending
-Outcome told (Ok (jobs.Same first second)) sites ending = OfReading first (ComparesWith told second) (conf first told) ending
-Outcome told job sites ending = ending ≡ usage
+-- what the words' job gives, by the program, by what is told of the files, and by the checks that the operator brings; a
+-- drill reads its own files
+abbrev pub Outcome : Program → FilesTold → Result Job LineFault → List Site → Ending → Type 0
+Outcome program told (Ok (jobs.OfConfig meta task)) sites ending = OfReading meta (GivesOf program task sites) (conf_of program meta told) ending
+Outcome program told (Ok (jobs.Drill zones workers)) sites ending = OfReading (codes "meta.json") (Drills (usual_names program) zones) (conf_of program (codes "meta.json") (drill_told zones)) ending
+Outcome program told (Ok (jobs.Recheck meta report)) sites ending = OfReading meta (Rechecks program told report) (conf_of program meta told) ending
+Outcome program told (Ok (jobs.Same first second)) sites ending = OfReading first (ComparesWith program told second) (conf_of program first told) ending
+Outcome program told job sites ending = ending ≡ usage program
 
 -- a run ends in the outcome of its job, in a failed read or because memory ran out
-abbrev pub IsEnding : FilesTold → Result Job LineFault → List Site → Ending → Type 0
-IsEnding told job sites ending =
-    Outcome told job sites ending ⊎ ((file : List ℕ) × (ending ≡ read_failed file)) ⊎ (ending ≡ no_memory)
+abbrev pub IsEnding : Program → FilesTold → Result Job LineFault → List Site → Ending → Type 0
+IsEnding program told job sites ending =
+    Outcome program told job sites ending ⊎ ((file : List ℕ) × (ending ≡ read_failed file)) ⊎ (ending ≡ no_memory)
 
 -- ---- failed reads
 
 -- The job comes to the file: every step of its reading before gives no refusal, and comes to no opened name that isn't
 -- held.
-abbrev pub JobComesTo : FilesTold → Result Job LineFault → List ℕ → Type 0
-JobComesTo told (Ok (jobs.OfConfig meta task)) file = ReadingComesTo meta told file
-JobComesTo told (Ok (jobs.Recheck meta report)) file = ComesToFile (both (conf meta) (file_octets report)) told file
-JobComesTo told (Ok (jobs.Same first second)) file = ComesToFile (both (conf first) (conf second)) told file
-JobComesTo told job file = ⊥
+abbrev pub JobComesTo : Program → FilesTold → Result Job LineFault → List ℕ → Type 0
+JobComesTo program told (Ok (jobs.OfConfig meta task)) file = ComesToFile (conf_of program meta) told file
+JobComesTo program told (Ok (jobs.Recheck meta report)) file = ComesToFile (both (conf_of program meta) (file_octets (limits_of program) report)) told file
+JobComesTo program told (Ok (jobs.Same first second)) file = ComesToFile (both (conf_of program first) (conf_of program second)) told file
+JobComesTo program told job file = ⊥
 
 -- no other file is opened than those to which the job comes: of any other name the same is told as before
-abbrev pub JobOpensNoOther : FilesTold → FilesTold → Result Job LineFault → Type 0
-JobOpensNoOther before after job = (file : List ℕ) → (after file ≡ before file) ⊎ JobComesTo after job file
+abbrev pub JobOpensNoOther : Program → FilesTold → FilesTold → Result Job LineFault → Type 0
+JobOpensNoOther program before after job = (file : List ℕ) → (after file ≡ before file) ⊎ JobComesTo program after job file
 
 -- no count of a file rose to which the job comes
-abbrev pub NoJobReadFailed : FilesTold → Result Job LineFault → (List ℕ → ℕ) → (List ℕ → ℕ) → Type 0
-NoJobReadFailed told job before after = (file : List ℕ) → JobComesTo told job file → Rose (before file) (after file) → ⊥
+abbrev pub NoJobReadFailed : Program → FilesTold → Result Job LineFault → (List ℕ → ℕ) → (List ℕ → ℕ) → Type 0
+NoJobReadFailed program told job before after = (file : List ℕ) → JobComesTo program told job file → Rose (before file) (after file) → ⊥

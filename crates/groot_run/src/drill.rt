@@ -1,10 +1,11 @@
 //! What a drill gives.
 
-ghost use Rattle.std.specs.Prelude.{◌≡◌, ◌⊎◌, ◌≤◌, ◌+◌, codes, length, min, IfOk};
-ghost use Rattle.config_load.specs.Conf.{conf};
+ghost use Rattle.std.specs.Prelude.{◌≡◌, ◌⊎◌, ◌<◌, ◌≤◌, ◌+◌, codes, length, min, IfOk};
 ghost use Rattle.groot_run.specs.DrillLine.{drill_line, record_count, zone_records};
 ghost use Rattle.run_endings.specs.Endings.{OfReading, no_memory};
+ghost use Rattle.groot_line.specs.Program.{largest_names, usual_names};
 ghost use Rattle.groot_run.specs.Outcome.{Drills, drilled};
+ghost use Rattle.groot_run.specs.Programs.{conf_of};
 ghost use Rattle.io_edges.specs.Counts.{last_count};
 ghost use Rattle.zone_maker.specs.Source.{drill_told};
 
@@ -14,7 +15,7 @@ use crate::judging::{CheckLimits, report_of};
 use crate::load::configuration;
 use dns_data::{NoMemory, Octets};
 use graph_form::Report;
-use groot_line::{USUAL_NAMES, USUAL_REWRITES};
+use groot_line::{Program, USUAL_REWRITES};
 use io_edges::Gate;
 use net_model::{Config, Server, Zone};
 use run_endings::Ending;
@@ -28,6 +29,7 @@ use zone_maker::DrillFiles;
 pub(crate) fn drill<G: Gate + Sync, R: Threads + Wait + Sync>(
     rt: &R,
     alloc: Global,
+    program: Program,
     zones: u32,
     workers: u32,
     gate: &G,
@@ -35,32 +37,38 @@ pub(crate) fn drill<G: Gate + Sync, R: Threads + Wait + Sync>(
     requires some { 1 ≤ zones }
     requires few { zones ≤ 5000 }
     requires workers { 1 ≤ workers }
-    ensures { OfReading (codes "meta.json") (Drills zones) (conf (codes "meta.json") (drill_told zones)) result ⊎ (result ≡ no_memory) }
+    ensures { OfReading (codes "meta.json") (Drills (usual_names program) zones) (conf_of program (codes "meta.json") (drill_told zones)) result ⊎ (result ≡ no_memory) }
 {
     match DrillFiles::make(alloc, zones) {
-        Ok(mut files) => match configuration(alloc, &mut files, "meta.json") {
-            Ok(config) => of_config(rt, alloc, &config, zones, workers, gate),
+        Ok(mut files) => match configuration(alloc, program, &mut files, "meta.json") {
+            Ok(config) => {
+                let names = program.usual_names();
+                of_config(rt, alloc, &config, zones, names, workers, gate)
+            }
             Err(ending) => ending,
         },
         Err(NoMemory) => Ending::no_memory(),
     }
 }
 
-/// What a drill gives of the configuration of its files.
+/// What a drill gives of the configuration of its files, whose class tree may have so many names.
 fn of_config<G: Gate + Sync, R: Threads + Wait + Sync>(
     rt: &R,
     alloc: Global,
     config: &Config,
     zones: u32,
+    names: u32,
     workers: u32,
     gate: &G,
 ) -> Ending
-    requires { 1 ≤ workers }
-    ensures { Drills zones config.now result ⊎ (result ≡ no_memory) }
+    requires workers { 1 ≤ workers }
+    requires some { 0 < names }
+    requires few { names ≤ largest_names }
+    ensures { Drills names zones config.now result ⊎ (result ≡ no_memory) }
 {
     let limits = CheckLimits {
         workers,
-        classes: USUAL_NAMES,
+        classes: names,
         rewrites: USUAL_REWRITES,
     };
     match report_of(rt, alloc, config, limits, gate) {

@@ -6,18 +6,18 @@ ghost use Rattle.groot_run.specs.Outcome as outcome;
 
 use crate::ask::MOST_WALKS;
 use dns_data::{Name, NoMemory};
-use groot_line::usage_line;
+use groot_line::{Program, usage_line};
 use itoa::Buffer;
 use plain_resolver::MOST_WALKS_FOLLOWED;
 use query_verdicts::MOST_STATES;
 use run_endings::{Ending, EndingLine, Status, more_than, refusal_line};
 use std::alloc::Global;
 
-/// The words are no job.
-pub(crate) fn usage() -> Ending
-    ensures { result ≡ outcome.usage }
+/// The words are no job of the program.
+pub(crate) fn usage(program: Program) -> Ending
+    ensures { result ≡ outcome.usage program }
 {
-    Ending::usage(usage_line())
+    Ending::usage(usage_line(program))
 }
 
 /// The query has more walks than are written.

@@ -17,7 +17,7 @@ use crate::recheck::recheck;
 use crate::same::same;
 use crate::scope::scope;
 use crate::site::site;
-use groot_line::{Job, Task};
+use groot_line::{Job, Program, Task};
 use io_edges::{Files, Gate};
 use net_model::Config;
 use run_endings::Ending;
@@ -27,37 +27,41 @@ use std::mem::forget;
 use std::sync::Wait;
 use std::thread::Threads;
 
-/// What a job gives. Each but a drill begins with the configuration of its metadata file. The gate is asked where
-/// workers judge, and the checks that the operator brings are shown the classes of `site` and of `scope`.
+/// What a job gives by the program. Each but a drill begins with the configuration of its metadata file. The gate is asked
+/// where workers judge, and the checks that the operator brings are shown the classes of `site` and of `scope`.
 pub(crate) fn of_job<F: Files, G: Gate + Sync, R: Threads + Wait + Sync>(
     rt: &R,
     alloc: Global,
+    program: Program,
     files: &mut F,
     job: &Job,
     gate: &G,
     sites: &mut Vec<Box<dyn SiteCheck>>,
 ) -> Ending
-    requires { AreInRange job.now }
-    ensures cause { JobEnds (F.told files.new) (Ok job.now) (map (λ b. record { name = name b; held = held b; step = step b }) sites.old.items)
+    requires { AreInRange program job.now }
+    ensures cause { JobEnds program (F.told files.new) (Ok job.now) (map (λ b. record { name = name b; held = held b; step = step b }) sites.old.items)
         (F.faults files.old) (F.faults files.new) result }
     ensures from_the_start { TellsAll (F.told files.old) → F.told files.new ≡ F.told files.old }
-    ensures opens { JobOpensNoOther (F.told files.old) (F.told files.new) (Ok job.now) }
+    ensures opens { JobOpensNoOther program (F.told files.old) (F.told files.new) (Ok job.now) }
 {
     match job {
-        Job::OfConfig { meta, task } => match configuration(alloc, files, meta.as_str()) {
+        Job::OfConfig { meta, task } => match configuration(alloc, program, files, meta.as_str()) {
             Ok(config) => {
-                let ending = of_task(rt, alloc, &config, task, gate, sites);
+                let ending = of_task(rt, alloc, program, &config, task, gate, sites);
                 // The run ends so, and the records of all zones with it: none is taken apart.
                 forget(config);
                 ending
             }
             Err(ending) => ending,
         },
-        Job::Drill { n, workers } => drill(rt, alloc, *n, *workers, gate),
-        Job::Recheck { meta, report } => recheck(alloc, files, meta.as_str(), report.as_str()),
+        Job::Drill { n, workers } => drill(rt, alloc, program, *n, *workers, gate),
+        Job::Recheck { meta, report } => {
+            recheck(alloc, program, files, meta.as_str(), report.as_str())
+        }
         Job::Same { first, second } => same(
             rt,
             alloc,
+            program,
             files,
             first.as_str(),
             second.as_str(),
@@ -70,13 +74,14 @@ pub(crate) fn of_job<F: Files, G: Gate + Sync, R: Threads + Wait + Sync>(
 fn of_task<G: Gate + Sync, R: Threads + Wait + Sync>(
     rt: &R,
     alloc: Global,
+    program: Program,
     config: &Config,
     task: &Task,
     gate: &G,
     sites: &mut Vec<Box<dyn SiteCheck>>,
 ) -> Ending
-    requires { IsTaskInRange task.now }
-    ensures { GivesOf task.now (map (λ b. record { name = name b; held = held b; step = step b }) sites.old.items) config.now result
+    requires { IsTaskInRange program task.now }
+    ensures { GivesOf program task.now (map (λ b. record { name = name b; held = held b; step = step b }) sites.old.items) config.now result
         ⊎ (result ≡ no_memory) }
 {
     match task {
@@ -94,7 +99,7 @@ fn of_task<G: Gate + Sync, R: Threads + Wait + Sync>(
         }
         Task::Ask { name, rtype } => ask(alloc, config, name, *rtype),
         Task::Classes { classes } => list_classes(alloc, config, *classes),
-        Task::Site => site(alloc, config, sites),
-        Task::Scope { name } => scope(rt, alloc, config, name, gate, sites),
+        Task::Site => site(alloc, config, program.usual_names(), sites),
+        Task::Scope { name } => scope(rt, alloc, config, name, program.usual_names(), gate, sites),
     }
 }

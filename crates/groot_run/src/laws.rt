@@ -6,6 +6,8 @@ ghost use Rattle.net_model.specs.declared.config.Config.{Config};
 ghost use Rattle.groot_line.specs.declared.fault.LineFault.{LineFault};
 ghost use Rattle.groot_line.specs.declared.job.Job.{Job};
 ghost use Rattle.groot_line.specs.declared.job.Job.TheVariants as jobs;
+ghost use Rattle.groot_line.specs.declared.program.Program.{Program};
+ghost use Rattle.groot_line.specs.Program.{usual_names};
 ghost use Rattle.run_endings.specs.declared.ending.Ending.{Ending};
 ghost use Rattle.groot_run.specs.Laws.{HasClasses};
 ghost use Rattle.groot_run.specs.Outcome.{Drills, Outcome};
@@ -27,18 +29,18 @@ pub fn query_classes()
     laws::classes_are_told();
 }
 
-/// By what is told of the files, and by the checks that the operator brings, a job has at most one outcome.
+/// By the program, by what is told of the files, and by the checks that the operator brings, a job has at most one outcome.
 pub fn one_outcome()
-    ensures one { (told : FilesTold) (job : Result Job LineFault) (sites : List Site) (a b : Ending)
-        → Outcome told job sites a → Outcome told job sites b → a ≡ b }
+    ensures one { (program : Program) (told : FilesTold) (job : Result Job LineFault) (sites : List Site) (a b : Ending)
+        → Outcome program told job sites a → Outcome program told job sites b → a ≡ b }
 {}
 
-/// The files of a drill of 1 to 5,000 zones are never refused: they give a configuration, and an outcome of the drill
-/// is what a drill gives of it.
+/// The files of a drill of 1 to 5,000 zones are never refused: they give a configuration to each program, and an outcome of
+/// the drill is what a drill gives of it.
 pub fn drills_read()
-    ensures { (zones workers : ℕ) → 1 ≤ zones → zones ≤ 5000
+    ensures { (program : Program) (zones workers : ℕ) → 1 ≤ zones → zones ≤ 5000
         → (config : Config) × ((told : FilesTold) (sites : List Site) (ending : Ending)
-        → Outcome told (Ok (jobs.Drill zones workers)) sites ending → Drills zones config ending) }
+        → Outcome program told (Ok (jobs.Drill zones workers)) sites ending → Drills (usual_names program) zones config ending) }
 {
     drill_laws::drill_files_read();
 }

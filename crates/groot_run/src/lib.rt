@@ -22,6 +22,7 @@ mod scope;
 mod shown;
 mod site;
 
+pub use groot_line::Program;
 pub use laws::{drills_read, one_outcome, one_report, query_classes};
-pub use run::{groot, groot_with_sites, run_words};
+pub use run::{groot, groot_with_sites, run_program, run_words};
 pub use run_endings::{Ending, EndingLine, Status};

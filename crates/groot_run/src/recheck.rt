@@ -2,18 +2,19 @@
 
 ghost use Rattle.std.specs.Prelude.{◌≡◌, ◌⊎◌, ◌++◌, codes, decimal, IfOk};
 ghost use Rattle.io_edges.specs.Files.{StaysTold, TellsAll};
-ghost use Rattle.config_load.specs.Conf.{conf};
 ghost use Rattle.config_load.specs.Load.{ComesToFile, OpensNoOther};
 ghost use Rattle.config_load.specs.Reading.{both, file_octets};
 ghost use Rattle.run_endings.specs.Ends.{EndsOrFails};
 ghost use Rattle.run_endings.specs.Endings.{OfReading, no_memory};
 ghost use Rattle.groot_run.specs.Outcome.{IsRechecked, Rechecks};
+ghost use Rattle.groot_run.specs.Programs.{conf_of, limits_of};
 
 use crate::counts::put_count;
 use crate::ending::{not_report, too_many_to_check};
-use crate::load::configuration;
+use crate::load::{configuration, limits_of};
 use config_load::read_file;
 use dns_data::{NoMemory, Octets};
+use groot_line::Program;
 use io_edges::Files;
 use net_model::Config;
 use report_check::{CheckFault, Checked, check_report};
@@ -22,27 +23,39 @@ use std::alloc::Global;
 
 /// Whether the entries of the report in a file are right, by the walks of the configuration of a metadata file. The
 /// report is read behind the configuration.
-pub(crate) fn recheck<F: Files>(alloc: Global, files: &mut F, meta: &str, report: &str) -> Ending
-    ensures cause { EndsOrFails (OfReading meta.now (Rechecks (F.told files.new) report.now) (conf meta.now (F.told files.new)) result)
-        (ComesToFile (both (conf meta.now) (file_octets report.now)) (F.told files.new)) (F.faults files.old) (F.faults files.new) result }
+pub(crate) fn recheck<F: Files>(
+    alloc: Global,
+    program: Program,
+    files: &mut F,
+    meta: &str,
+    report: &str,
+) -> Ending
+    ensures cause { EndsOrFails (OfReading meta.now (Rechecks program (F.told files.new) report.now) (conf_of program meta.now (F.told files.new)) result)
+        (ComesToFile (both (conf_of program meta.now) (file_octets (limits_of program) report.now)) (F.told files.new)) (F.faults files.old) (F.faults files.new) result }
     ensures from_the_start { TellsAll (F.told files.old) → F.told files.new ≡ F.told files.old }
-    ensures opens { OpensNoOther (both (conf meta.now) (file_octets report.now)) (F.told files.old) (F.told files.new) }
+    ensures opens { OpensNoOther (both (conf_of program meta.now) (file_octets (limits_of program) report.now)) (F.told files.old) (F.told files.new) }
 {
-    match configuration(alloc, files, meta) {
-        Ok(config) => of_config(alloc, files, &config, report),
+    match configuration(alloc, program, files, meta) {
+        Ok(config) => of_config(alloc, program, files, &config, report),
         Err(ending) => ending,
     }
 }
 
 /// Whether the entries of the report in a file are right, by the walks of the configuration.
-fn of_config<F: Files>(alloc: Global, files: &mut F, config: &Config, report: &str) -> Ending
-    ensures cause { EndsOrFails (OfReading report.now (IsRechecked report.now config.now) (file_octets report.now (F.told files.new)) result)
-        (ComesToFile (file_octets report.now) (F.told files.new)) (F.faults files.old) (F.faults files.new) result }
+fn of_config<F: Files>(
+    alloc: Global,
+    program: Program,
+    files: &mut F,
+    config: &Config,
+    report: &str,
+) -> Ending
+    ensures cause { EndsOrFails (OfReading report.now (IsRechecked report.now config.now) (file_octets (limits_of program) report.now (F.told files.new)) result)
+        (ComesToFile (file_octets (limits_of program) report.now) (F.told files.new)) (F.faults files.old) (F.faults files.new) result }
     ensures stays { StaysTold (F.told files.old) (F.told files.new) }
     ensures from_the_start { TellsAll (F.told files.old) → F.told files.new ≡ F.told files.old }
-    ensures opens { OpensNoOther (file_octets report.now) (F.told files.old) (F.told files.new) }
+    ensures opens { OpensNoOther (file_octets (limits_of program) report.now) (F.told files.old) (F.told files.new) }
 {
-    match read_file(alloc, files, report) {
+    match read_file(alloc, limits_of(program), files, report) {
         Ok(octets) => of_octets(alloc, config, report, octets.items()),
         Err(fault) => Ending::not_loaded(alloc, report, fault),
     }

@@ -1,24 +1,25 @@
 //! Whether two configurations give the same answers.
 
-ghost use Rattle.std.specs.Prelude.{◌≡◌, ◌⊎◌, ◌≤◌, ◌++◌, codes, decimal, IfOk};
+ghost use Rattle.std.specs.Prelude.{◌≡◌, ◌⊎◌, ◌<◌, ◌≤◌, ◌++◌, codes, decimal, IfOk};
 ghost use Rattle.dns_data.specs.RrType.{word_of};
 ghost use Rattle.dns_data.specs.Spelling.{name_text};
 ghost use Rattle.io_edges.specs.Files.{StaysTold, TellsAll};
-ghost use Rattle.config_load.specs.Conf.{conf};
 ghost use Rattle.config_load.specs.Load.{ComesToFile, OpensNoOther};
 ghost use Rattle.config_load.specs.Reading.{both};
 ghost use Rattle.query_verdicts.specs.Queries.{most_states};
 ghost use Rattle.same_answers.specs.Values.{ArePairValues};
 ghost use Rattle.run_endings.specs.Ends.{EndsOrFails};
 ghost use Rattle.run_endings.specs.Endings.{OfReading, no_memory};
+ghost use Rattle.groot_line.specs.Program.{largest_names};
 ghost use Rattle.groot_run.specs.Outcome.{Compares, ComparesWith, compared_of, same_rewrites, told_same};
+ghost use Rattle.groot_run.specs.Programs.{conf_of};
 
 use crate::counted::{count_redirected, either_redirects};
 use crate::counts::put_count;
 use crate::ending::too_many_states;
 use crate::load::configuration;
 use dns_data::{Name, NoMemory, Octets, RrType};
-use groot_line::{USUAL_NAMES, USUAL_REWRITES, USUAL_WORKERS};
+use groot_line::{Program, USUAL_REWRITES, USUAL_WORKERS};
 use io_edges::{Files, Gate};
 use net_model::Config;
 use query_verdicts::MOST_STATES;
@@ -35,18 +36,19 @@ use steal_pool::{PoolFault, run_tree};
 pub(crate) fn same<F: Files, G: Gate + Sync, R: Threads + Wait + Sync>(
     rt: &R,
     alloc: Global,
+    program: Program,
     files: &mut F,
     first: &str,
     second: &str,
     gate: &G,
 ) -> Ending
-    ensures cause { EndsOrFails (OfReading first.now (ComparesWith (F.told files.new) second.now) (conf first.now (F.told files.new)) result)
-        (ComesToFile (both (conf first.now) (conf second.now)) (F.told files.new)) (F.faults files.old) (F.faults files.new) result }
+    ensures cause { EndsOrFails (OfReading first.now (ComparesWith program (F.told files.new) second.now) (conf_of program first.now (F.told files.new)) result)
+        (ComesToFile (both (conf_of program first.now) (conf_of program second.now)) (F.told files.new)) (F.faults files.old) (F.faults files.new) result }
     ensures from_the_start { TellsAll (F.told files.old) → F.told files.new ≡ F.told files.old }
-    ensures opens { OpensNoOther (both (conf first.now) (conf second.now)) (F.told files.old) (F.told files.new) }
+    ensures opens { OpensNoOther (both (conf_of program first.now) (conf_of program second.now)) (F.told files.old) (F.told files.new) }
 {
-    match configuration(alloc, files, first) {
-        Ok(config) => with_second(rt, alloc, files, &config, second, gate),
+    match configuration(alloc, program, files, first) {
+        Ok(config) => with_second(rt, alloc, program, files, &config, second, gate),
         Err(ending) => ending,
     }
 }
@@ -55,25 +57,26 @@ pub(crate) fn same<F: Files, G: Gate + Sync, R: Threads + Wait + Sync>(
 fn with_second<F: Files, G: Gate + Sync, R: Threads + Wait + Sync>(
     rt: &R,
     alloc: Global,
+    program: Program,
     files: &mut F,
     first: &Config,
     second: &str,
     gate: &G,
 ) -> Ending
-    ensures cause { EndsOrFails (ComparesWith (F.told files.new) second.now first.now result)
-        (ComesToFile (conf second.now) (F.told files.new)) (F.faults files.old) (F.faults files.new) result }
+    ensures cause { EndsOrFails (ComparesWith program (F.told files.new) second.now first.now result)
+        (ComesToFile (conf_of program second.now) (F.told files.new)) (F.faults files.old) (F.faults files.new) result }
     ensures stays { StaysTold (F.told files.old) (F.told files.new) }
     ensures from_the_start { TellsAll (F.told files.old) → F.told files.new ≡ F.told files.old }
-    ensures opens { OpensNoOther (conf second.now) (F.told files.old) (F.told files.new) }
+    ensures opens { OpensNoOther (conf_of program second.now) (F.told files.old) (F.told files.new) }
 {
-    match configuration(alloc, files, second) {
-        Ok(config) => compared(rt, alloc, first, &config, USUAL_WORKERS, gate),
+    match configuration(alloc, program, files, second) {
+        Ok(config) => compared(rt, alloc, first, &config, program.usual_names(), gate),
         Err(ending) => ending,
     }
 }
 
 /// Whether some query that both configurations bound has other outcomes in the one than in the other: the first such
-/// one, or how many classes and names were looked at; unless the class tree of both has too many names, or else a
+/// one, or how many classes and names were looked at; unless the class tree of both has more than so many names, or else a
 /// representative reaches too many pairs of state and type in one of them. It is the same for every number of workers
 /// and every schedule.
 fn compared<G: Gate + Sync, R: Threads + Wait + Sync>(
@@ -81,13 +84,14 @@ fn compared<G: Gate + Sync, R: Threads + Wait + Sync>(
     alloc: Global,
     first: &Config,
     second: &Config,
-    workers: u32,
+    names: u32,
     gate: &G,
 ) -> Ending
-    requires { 1 ≤ workers }
-    ensures { Compares (compared_of first.now second.now) result ⊎ (result ≡ no_memory) }
+    requires some { 0 < names }
+    requires few { names ≤ largest_names }
+    ensures { Compares names (compared_of first.now second.now) result ⊎ (result ≡ no_memory) }
 {
-    judged::<Brand, G, R>(rt, alloc, first, second, workers, gate)
+    judged::<Brand, G, R>(rt, alloc, first, second, names, gate)
 }
 
 /// What the comparison of this name tells of the configurations.
@@ -96,17 +100,18 @@ fn judged<N: PairNaming + Send + Sync, G: Gate + Sync, R: Threads + Wait + Sync>
     alloc: Global,
     first: &Config,
     second: &Config,
-    workers: u32,
+    names: u32,
     gate: &G,
 ) -> Ending
-    requires workers { 1 ≤ workers }
+    requires some { 0 < names }
+    requires few { names ≤ largest_names }
     requires configs { (first.now ≡ N.compared.first) × (second.now ≡ N.compared.second) }
     requires limits { (same_rewrites ≡ N.compared.rewrites) × (most_states ≡ N.compared.states) }
     requires values { ArePairValues N.compared N.children_of N.verdict_of }
-    ensures { Compares N.compared result ⊎ (result ≡ no_memory) }
+    ensures { Compares names N.compared result ⊎ (result ≡ no_memory) }
 {
     match Pairing::<N>::prepare(alloc, first, second, USUAL_REWRITES, MOST_STATES) {
-        Ok(pairing) => counted(rt, alloc, first, second, &pairing, workers, gate),
+        Ok(pairing) => counted(rt, alloc, first, second, &pairing, names, gate),
         Err(NoMemory) => Ending::no_memory(),
     }
 }
@@ -119,20 +124,21 @@ fn counted<N: PairNaming + Send + Sync, G: Gate + Sync, R: Threads + Wait + Sync
     first: &Config,
     second: &Config,
     pairing: &Pairing<'_, N>,
-    workers: u32,
+    names: u32,
     gate: &G,
 ) -> Ending
-    requires workers { 1 ≤ workers }
+    requires some { 0 < names }
+    requires few { names ≤ largest_names }
     requires values { ArePairValues N.compared N.children_of N.verdict_of }
-    ensures { Compares N.compared result ⊎ (result ≡ no_memory) }
+    ensures { Compares names N.compared result ⊎ (result ≡ no_memory) }
 {
     match count_redirected(
         alloc,
         either_redirects(first, second),
         pairing.base_names(),
-        USUAL_NAMES,
+        names,
     ) {
-        Ok(()) => told_by(rt, alloc, pairing, workers, gate),
+        Ok(()) => told_by(rt, alloc, pairing, names, gate),
         Err(ending) => ending,
     }
 }
@@ -142,21 +148,22 @@ fn told_by<N: PairNaming + Send + Sync, G: Gate + Sync, R: Threads + Wait + Sync
     rt: &R,
     alloc: Global,
     pairing: &Pairing<'_, N>,
-    workers: u32,
+    names: u32,
     gate: &G,
 ) -> Ending
-    requires workers { 1 ≤ workers }
+    requires some { 0 < names }
+    requires few { names ≤ largest_names }
     requires values { ArePairValues N.compared N.children_of N.verdict_of }
-    ensures { Compares N.compared result ⊎ (result ≡ no_memory) }
+    ensures { Compares names N.compared result ⊎ (result ≡ no_memory) }
 {
     laws::tree_is_reached();
-    match run_tree(rt, alloc, pairing, workers, USUAL_NAMES, gate) {
+    match run_tree(rt, alloc, pairing, USUAL_WORKERS, names, gate) {
         Ok(filed) => match pairing.outcome(filed) {
             Ok(sameness) => told(alloc, &sameness),
             Err(JudgeFault::StatesPassed(query)) => too_many_states(alloc, &query),
             Err(JudgeFault::NoMemory) => Ending::no_memory(),
         },
-        Err(PoolFault::TooMany(_)) => Ending::too_many_names(alloc, USUAL_NAMES),
+        Err(PoolFault::TooMany(_)) => Ending::too_many_names(alloc, names),
         Err(PoolFault::NoMemory) => Ending::no_memory(),
     }
 }

@@ -1,6 +1,6 @@
 //! The report on the queries at or below a name, and what the checks that an operator brings find in their classes.
 
-ghost use Rattle.std.specs.Prelude.{◌≡◌, ◌⊎◌, map, IfOk, IfErr};
+ghost use Rattle.std.specs.Prelude.{◌≡◌, ◌⊎◌, ◌<◌, ◌≤◌, map, IfOk, IfErr};
 ghost use Rattle.graph_form.specs.Report.{IsReport};
 ghost use Rattle.net_model.specs.Tree.{IsInPart};
 ghost use Rattle.query_classes.specs.ClassList.{AreListed, classes_of_rows};
@@ -10,7 +10,8 @@ ghost use Rattle.query_verdicts.specs.Subjects.{IsCovering};
 ghost use Rattle.report_json.specs.Sites.{scope_text};
 ghost use Rattle.run_endings.specs.Endings.{no_memory};
 ghost use Rattle.groot_run.specs.Counted.{EndsPast};
-ghost use Rattle.groot_run.specs.Outcome.{IsScoped, Scopes, ScopesSubject, scope_names, scope_of};
+ghost use Rattle.groot_line.specs.Program.{largest_names};
+ghost use Rattle.groot_run.specs.Outcome.{IsScoped, Scopes, ScopesSubject, scope_of};
 
 use crate::check::status_of;
 use crate::classes::rows_at;
@@ -19,7 +20,7 @@ use crate::site::show_rows;
 use class_judge::{Judge, Naming};
 use dns_data::{List, Name, NoMemory, Octets};
 use graph_form::Report;
-use groot_line::{USUAL_NAMES, USUAL_REWRITES, USUAL_WORKERS};
+use groot_line::{USUAL_REWRITES, USUAL_WORKERS};
 use io_edges::Gate;
 use job_scope::ScopeJudge;
 use net_model::Config;
@@ -35,22 +36,25 @@ use std::sync::Wait;
 use std::thread::Threads;
 
 /// The scope of a name in a configuration: the report on the queries at or below the name, and what the checks find in
-/// their classes; unless the scope has too many names, or else a representative in it or the name of a server reaches
-/// too many pairs of state and type.
+/// their classes; unless the scope has more than so many names, or else a representative in it or the name of a server
+/// reaches too many pairs of state and type.
 pub(crate) fn scope<G: Gate + Sync, R: Threads + Wait + Sync>(
     rt: &R,
     alloc: Global,
     config: &Config,
     scope: &Name,
+    names: u32,
     gate: &G,
     sites: &mut Vec<Box<dyn SiteCheck>>,
 ) -> Ending
-    ensures { Scopes scope.now (map (λ b. record { name = name b; held = held b; step = step b }) sites.old.items) config.now result
+    requires some { 0 < names }
+    requires few { names ≤ largest_names }
+    ensures { Scopes names scope.now (map (λ b. record { name = name b; held = held b; step = step b }) sites.old.items) config.now result
         ⊎ (result ≡ no_memory) }
 {
     // The labels are read, so that the length of the name is known here.
     let _ = scope.labels();
-    judged::<Brand, G, R>(rt, alloc, config, scope, gate, sites)
+    judged::<Brand, G, R>(rt, alloc, config, scope, names, gate, sites)
 }
 
 /// The scope of a name, by the judge of this name.
@@ -59,17 +63,20 @@ fn judged<N: Naming + Send + Sync, G: Gate + Sync, R: Threads + Wait + Sync>(
     alloc: Global,
     config: &Config,
     scope: &Name,
+    names: u32,
     gate: &G,
     sites: &mut Vec<Box<dyn SiteCheck>>,
 ) -> Ending
     requires name { (scope_of config.now scope.now ≡ N.subject) × (most_states ≡ N.states) }
     requires covering { IsCovering N.subject }
-    ensures { ScopesSubject N.subject (map (λ b. record { name = name b; held = held b; step = step b }) sites.old.items) result
+    requires some { 0 < names }
+    requires few { names ≤ largest_names }
+    ensures { ScopesSubject names N.subject (map (λ b. record { name = name b; held = held b; step = step b }) sites.old.items) result
         ⊎ (result ≡ no_memory) }
 {
     match ScopeJudge::<N>::prepare(alloc, config, USUAL_REWRITES, MOST_STATES, scope) {
         Ok(judge) => {
-            let ending = told_by(rt, alloc, judge.as_judge(), scope, gate, sites);
+            let ending = told_by(rt, alloc, judge.as_judge(), scope, names, gate, sites);
             // The run ends so, and the trees of all zones with it: none is taken apart.
             forget(judge);
             ending
@@ -85,20 +92,23 @@ fn told_by<N: Naming + Send + Sync, G: Gate + Sync, R: Threads + Wait + Sync>(
     alloc: Global,
     judge: &Judge<'_, N>,
     scope: &Name,
+    names: u32,
     gate: &G,
     sites: &mut Vec<Box<dyn SiteCheck>>,
 ) -> Ending
     requires name { (scope.now ≡ N.subject.below) × (most_states ≡ N.states) }
     requires covering { IsCovering N.subject }
-    ensures { ScopesSubject N.subject (map (λ b. record { name = name b; held = held b; step = step b }) sites.old.items) result
+    requires some { 0 < names }
+    requires few { names ≤ largest_names }
+    ensures { ScopesSubject names N.subject (map (λ b. record { name = name b; held = held b; step = step b }) sites.old.items) result
         ⊎ (result ≡ no_memory) }
 {
     let limits = CheckLimits {
         workers: USUAL_WORKERS,
-        classes: USUAL_NAMES,
+        classes: names,
         rewrites: USUAL_REWRITES,
     };
-    match rows_of(alloc, judge, scope) {
+    match rows_of(alloc, judge, scope, names) {
         Ok(rows) => match told(rt, alloc, judge, limits, gate) {
             Ok(report) => shown(alloc, judge, scope, rows.items(), &report, sites),
             Err(ending) => ending,
@@ -139,12 +149,13 @@ fn rows_of<N: Naming>(
     alloc: Global,
     judge: &Judge<'_, N>,
     name: &Name,
+    names: u32,
 ) -> Result<List<ClassRow>, Ending>
     requires { name.now ≡ N.subject.below }
     ensures listed { IfOk result (λ rows. AreListed N.subject.ground N.subject.below (classes_of_rows rows)) }
-    ensures err { IfErr result (EndsPast (IsInPart N.subject.ground N.subject.below) scope_names) }
+    ensures err { IfErr result (EndsPast (IsInPart N.subject.ground N.subject.below) names) }
 {
-    rows_at(alloc, judge.base_names(), name, USUAL_NAMES)
+    rows_at(alloc, judge.base_names(), name, names)
 }
 
 /// The text of a scope.

@@ -13,7 +13,7 @@ use crate::classes::rows_within;
 use crate::ending::too_many_states;
 use crate::shown::show;
 use dns_data::{Name, NoMemory, Octets};
-use groot_line::{USUAL_NAMES, USUAL_REWRITES};
+use groot_line::USUAL_REWRITES;
 use interp_graph::GraphFault;
 use net_model::{Class, Config};
 use query_classes::ClassRow;
@@ -23,13 +23,18 @@ use run_endings::{Ending, Status};
 use site_checks::{SiteCheck, tell, view};
 use std::alloc::Global;
 
-/// What the checks find in the classes of the configuration, unless its class tree has too many names or else a
+/// What the checks find in the classes of the configuration, unless its class tree has more than so many names or else a
 /// representative reaches too many pairs of state and type. Each check is shown the view of each class, in class order.
-pub(crate) fn site(alloc: Global, config: &Config, sites: &mut Vec<Box<dyn SiteCheck>>) -> Ending
-    ensures { ShowsClasses (map (λ b. record { name = name b; held = held b; step = step b }) sites.old.items) config.now result
+pub(crate) fn site(
+    alloc: Global,
+    config: &Config,
+    names: u32,
+    sites: &mut Vec<Box<dyn SiteCheck>>,
+) -> Ending
+    ensures { ShowsClasses names (map (λ b. record { name = name b; held = held b; step = step b }) sites.old.items) config.now result
         ⊎ (result ≡ no_memory) }
 {
-    match rows_within(alloc, config, USUAL_NAMES) {
+    match rows_within(alloc, config, names) {
         Ok(rows) => find(alloc, config, rows.items(), sites),
         Err(ending) => ending,
     }

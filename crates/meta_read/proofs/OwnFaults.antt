@@ -10,9 +10,9 @@ use Rattle.dns_data.specs.Name.{Labels}
 use Rattle.dns_data.specs.Spelling.{name_of_text}
 use Rattle.dns_data.specs.declared.fault.NameFault.{NameFault}
 use Rattle.meta_read.specs.Members.{value_of, list_at, text_at}
-use Rattle.meta_read.specs.Metadata.{first_unhosted, unless_unhosted, metadata_in, metadata_of}
+use Rattle.meta_read.specs.Metadata.{first_unhosted, unless_unhosted, metadata_in, metadata_within}
 use Rattle.meta_read.specs.Names.{each, name_in_row}
-use Rattle.meta_read.specs.Rows.{file_in_row, origin_at, origin_in, read_row, most_rows, rows_of}
+use Rattle.meta_read.specs.Rows.{file_in_row, origin_at, origin_in, read_row, rows_of}
 use Rattle.meta_read.specs.Tops.{top_of, tops_in, tops_of}
 use Rattle.meta_read.specs.declared.fault.MetaFault.{MetaFault}
 use Rattle.meta_read.specs.declared.fault.MetaFault.TheVariants.{NotJson, Shape, BadName, NoMemory}
@@ -62,21 +62,21 @@ row_own number row =
     (λ origin_text. if_err_then IsOwn (name_in_row number server_text) _ (name_own number server_text)
     (λ server. if_err_then IsOwn (origin_in number origin_text) _ (origin_own number origin_text) (λ origin. tt)))))
 
-rows_own : (value : Data) → IfErr (rows_of value) IsOwn
-rows_own value =
+rows_own : (most : ℕ) (value : Data) → IfErr (rows_of most value) IsOwn
+rows_own most value =
     if_err_then IsOwn (ok_or (list_at (codes "ZoneFiles") value) (Shape 0)) _ (if_err_or IsOwn (list_at (codes "ZoneFiles") value) (Shape 0) tt)
-    (λ values. if_err_either IsOwn (nat_lt most_rows (length values)) _ _ tt (each_own read_row row_own 1 values))
+    (λ values. if_err_either IsOwn (nat_lt most (length values)) _ _ tt (each_own read_row row_own 1 values))
 
 hosted_own : (top : Option Labels) (meta : Meta) → IfErr (unless_unhosted top meta) IsOwn
 hosted_own None meta = tt
 hosted_own (Some top) meta = tt
 
-value_own : (value : Data) → IfErr (metadata_in value) IsOwn
-value_own value =
+value_own : (most : ℕ) (value : Data) → IfErr (metadata_in most value) IsOwn
+value_own most value =
     if_err_then IsOwn (tops_of value) _ (tops_own value)
-    (λ tops. if_err_then IsOwn (rows_of value) _ (rows_own value) (λ rows. hosted_own (first_unhosted tops rows) (record { tops = tops; rows = rows })))
+    (λ tops. if_err_then IsOwn (rows_of most value) _ (rows_own most value) (λ rows. hosted_own (first_unhosted tops rows) (record { tops = tops; rows = rows })))
 
 -- the fault of a metadata file says something of it
-pub metadata_own : (octets : List ℕ) → IfErr (metadata_of octets) IsOwn
-metadata_own octets =
-    if_err_then IsOwn (ok_or (value_of octets) NotJson) _ (if_err_or IsOwn (value_of octets) NotJson tt) value_own
+pub metadata_own : (most : ℕ) (octets : List ℕ) → IfErr (metadata_within most octets) IsOwn
+metadata_own most octets =
+    if_err_then IsOwn (ok_or (value_of octets) NotJson) _ (if_err_or IsOwn (value_of octets) NotJson tt) (value_own most)

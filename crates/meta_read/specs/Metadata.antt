@@ -22,15 +22,23 @@ abbrev pub unless_unhosted : Option Labels → Meta → Result Meta MetaFault
 unless_unhosted None meta = Ok meta
 unless_unhosted (Some top) meta = Err (TopUnhosted top)
 
--- the metadata of a value
-abbrev pub metadata_in : Data → Result Meta MetaFault
-metadata_in value = do
+-- the metadata of a value, with no more rows than this
+abbrev pub metadata_in : ℕ → Data → Result Meta MetaFault
+metadata_in most value = do
   tops ← tops_of value
-  rows ← rows_of value
+  rows ← rows_of most value
   unless_unhosted (first_unhosted tops rows) (record { tops = tops; rows = rows })
 
--- the metadata of a file's octets
-abbrev pub metadata_of : List ℕ → Result Meta MetaFault
-metadata_of octets = do
+-- the metadata of a file's octets, with no more rows than this
+abbrev pub metadata_within : ℕ → List ℕ → Result Meta MetaFault
+metadata_within most octets = do
   value ← ok_or (value_of octets) NotJson
-  metadata_in value
+  metadata_in most value
+
+-- how many rows there may be, where nothing else is said
+abbrev pub usual_rows : ℕ
+usual_rows = 10000
+
+-- the metadata of a file's octets, with no more rows than is usual
+abbrev pub metadata_of : List ℕ → Result Meta MetaFault
+metadata_of = metadata_within usual_rows

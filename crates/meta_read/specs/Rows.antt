@@ -1,5 +1,5 @@
--- The zone files: `ZoneFiles`, a list of at most 10,000 rows. A row has a `FileName`, a `NameServer`, and an `Origin`
--- or none. Its shape is looked at before its names.
+-- The zone files: `ZoneFiles`, a list of no more rows than are read. A row has a `FileName`, a `NameServer`, and an
+-- `Origin` or none. Its shape is looked at before its names.
 use Rattle.std.specs.Prelude.{ℕ, List, length, codes, nat_lt, ok_or, option_and_then, if◌then◌else◌, ◌==◌, Option, Some, None, Result, Ok, Err}
 use Rattle.serde_json.specs.Data.{Data, null, string}
 use Rattle.serde_json.specs.Find.{get}
@@ -47,12 +47,8 @@ read_row number row = do
   origin ← origin_in number origin_text
   Ok (record { file = file; server = server; origin = origin })
 
--- how many rows there may be
-abbrev pub most_rows : ℕ
-most_rows = 10000
-
--- the rows, counted from 1
-abbrev pub rows_of : Data → Result (List MetaRow) MetaFault
-rows_of value = do
+-- the rows, counted from 1, if there are no more than this
+abbrev pub rows_of : ℕ → Data → Result (List MetaRow) MetaFault
+rows_of most value = do
   values ← ok_or (list_at (codes "ZoneFiles") value) (Shape 0)
-  if nat_lt most_rows (length values) then Err TooManyRows else each read_row 1 values
+  if nat_lt most (length values) then Err TooManyRows else each read_row 1 values

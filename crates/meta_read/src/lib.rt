@@ -2,12 +2,13 @@
 //! it, from a text of JSON (RFC 8259).
 //!
 //! The layer above may rest on this: what `read_metadata` answers is what the definition `metadata_of` says of the
-//! octets, step by step in the order of the format, so the first fault decides, with the number of its row. `list_at` and
-//! `text_at` give what stands at a key of an object, of that kind alone.
+//! octets, step by step in the order of the format, so the first fault decides, with the number of its row.
+//! `read_metadata_within` is told how many rows there may be. `list_at` and `text_at` give what stands at a key of an
+//! object, of that kind alone.
 //!
 //! Costs: the text is read once, and its value is held until the metadata are made. Names of top servers are made
 //! single, and looked up among the servers of rows, by sets in the order of names, so a list of any length takes its
-//! length times a logarithm. A list of more than 10,000 rows is refused before a row is looked at.
+//! length times a logarithm. A list of more rows than there may be is refused before a row is looked at.
 #![tactic(auto)]
 
 mod fault;
@@ -22,4 +23,4 @@ mod tops;
 pub use fault::MetaFault;
 pub use members::{list_at, text_at};
 pub use meta::{Meta, MetaRow};
-pub use read::read_metadata;
+pub use read::{USUAL_ROWS, read_metadata, read_metadata_within};

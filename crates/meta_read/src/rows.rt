@@ -1,12 +1,12 @@
 //! Rows of zone files.
 
-ghost use Rattle.std.specs.Prelude.{◌≡◌, ◌≤◌, map, length, codes};
+ghost use Rattle.std.specs.Prelude.{◌≡◌, ◌<◌, ◌^◌, map, length, codes};
 ghost use Rattle.std.specs.Option.{option_map};
 ghost use Rattle.serde_json.specs.Find.{get};
 ghost use Rattle.serde_json.specs.View.{view};
 ghost use Rattle.dns_data.specs.Answers.{AnswersOr};
 ghost use Rattle.meta_read.specs.Names.{each};
-ghost use Rattle.meta_read.specs.Rows.{rows_of, read_row, file_in_row, origin_at, origin_text, origin_in, most_rows};
+ghost use Rattle.meta_read.specs.Rows.{rows_of, read_row, file_in_row, origin_at, origin_text, origin_in};
 
 use crate::fault::MetaFault;
 use crate::members::{list_at, text_at};
@@ -16,17 +16,14 @@ use dns_data::{List, Name, Text};
 use serde_json::Value;
 use std::alloc::Global;
 
-/// How many rows there may be.
-const MOST_ROWS: usize = 10_000;
-
-/// The rows in order, if there are no more than are read.
-pub(crate) fn read_rows(alloc: Global, value: &Value) -> Result<List<MetaRow>, MetaFault>
-    ensures { AnswersOr MetaFault.NoMemory result (rows_of (view value.now)) }
+/// The rows in order, if there are no more than `most`.
+pub(crate) fn read_rows(alloc: Global, most: u32, value: &Value) -> Result<List<MetaRow>, MetaFault>
+    ensures { AnswersOr MetaFault.NoMemory result (rows_of most (view value.now)) }
 {
     let Some(values) = list_at(value, "ZoneFiles") else {
         return Err(MetaFault::Shape { row: 0 });
     };
-    if values.len() > MOST_ROWS {
+    if values.len() > most as usize {
         return Err(MetaFault::TooManyRows);
     }
     each_row(alloc, values)
@@ -34,7 +31,7 @@ pub(crate) fn read_rows(alloc: Global, value: &Value) -> Result<List<MetaRow>, M
 
 /// The row of each value, with its number, counted from 1.
 fn each_row(alloc: Global, values: &[Value]) -> Result<List<MetaRow>, MetaFault>
-    requires { length values.now ≤ most_rows }
+    requires { length values.now < 2 ^ 32 }
     ensures { AnswersOr MetaFault.NoMemory result (each read_row 1 (map view values.now)) }
 {
     let mut rows = List::new(alloc);

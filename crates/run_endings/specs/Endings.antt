@@ -4,6 +4,7 @@ use Rattle.dns_data.specs.Name.{Labels}
 use Rattle.dns_data.specs.Spelling.{name_text}
 use Rattle.config_load.specs.Reading.{Reading, Reads, Refuses, Misses, Unknown}
 use Rattle.config_load.specs.Refusal.{refusal_line}
+use Rattle.config_load.specs.FileName.{shown_file}
 use Rattle.config_load.specs.declared.fault.LoadFault.{LoadFault}
 use Rattle.run_endings.specs.declared.ending.Ending.{Ending}
 use Rattle.run_endings.specs.declared.status.Status.{Status}
@@ -43,7 +44,7 @@ refused meta fault = without_output Refused (refusal_line meta fault)
 
 -- a file could not be read
 abbrev pub read_failed : List ℕ → Ending
-read_failed file = without_output (ReadFault file) (file ++ codes ": read failed\n")
+read_failed file = without_output (ReadFault file) (shown_file file ++ codes ": read failed\n")
 
 -- memory ran out
 abbrev pub no_memory : Ending

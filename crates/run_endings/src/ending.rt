@@ -3,12 +3,13 @@
 ghost use Rattle.std.specs.Prelude.{◌≡◌, ◌⊎◌, ◌++◌, ℕ, List, codes, decimal, IfOk};
 ghost use Rattle.dns_data.specs.Spelling.{name_text};
 ghost use Rattle.config_load.specs.Refusal.{fields_line};
+ghost use Rattle.config_load.specs.FileName.{shown_file};
 ghost use Rattle.run_endings.specs.Endings as endings;
 ghost use Rattle.run_endings.specs.Ends.{IsNotLoaded};
 
 use crate::line::EndingLine;
 use crate::status::Status;
-use config_load::LoadFault;
+use config_load::{LoadFault, shown_file};
 use dns_data::{Name, NoMemory, Octets, Text};
 use itoa::Buffer;
 use std::alloc::Global;
@@ -115,10 +116,18 @@ impl From<NoMemory> for Ending {
 fn read_failed(alloc: Global, file: Text) -> Ending
     ensures { (result ≡ endings.read_failed file) ⊎ (result ≡ endings.no_memory) }
 {
-    match EndingLine::of_pieces(alloc, &[file.as_str().as_bytes(), b": read failed\n"]) {
+    match failed_line(alloc, file.as_str()) {
         Ok(line) => Ending::without_output(Status::ReadFault(file), line),
         Err(NoMemory) => Ending::no_memory(),
     }
+}
+
+/// The line that says that a file could not be read.
+fn failed_line(alloc: Global, file: &str) -> Result<EndingLine, NoMemory>
+    ensures { IfOk result (λ line. line ≡ shown_file file.now ++ codes ": read failed\n") }
+{
+    let file = shown_file(alloc, file)?;
+    EndingLine::of_pieces(alloc, &[file.items(), b": read failed\n"])
 }
 
 /// The files of this metadata file are refused.
@@ -187,10 +196,11 @@ fn fields_line_of<'a>(
 ) -> Result<EndingLine, NoMemory>
     ensures { IfOk result (λ told. told ≡ fields_line file.now line.now code.now) }
 {
+    let file = shown_file(alloc, file)?;
     EndingLine::of_pieces(
         alloc,
         &[
-            file.as_bytes(),
+            file.items(),
             b":",
             line.as_bytes(),
             b": ",

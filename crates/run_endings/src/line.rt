@@ -31,7 +31,7 @@ impl Model for EndingLine {
 
 impl EndingLine {
     /// A text of the program's own. It takes no memory.
-    pub fn fixed(text: &'static str) -> EndingLine
+    pub(crate) fn fixed(text: &'static str) -> EndingLine
         ensures { result ≡ text.now }
     {
         EndingLine {

@@ -3,7 +3,7 @@
 ghost use Rattle.std.specs.Prelude.{◌≡◌, IfOk, length};
 
 use super::configs::{graph_of, loaded, name, spells};
-use address_deps::{AddressTold, dependencies};
+use address_deps::{AddressTold, dependencies, told_by};
 use dns_data::{List, Name, NameFault};
 use interp_graph::GraphFault;
 use net_model::Config;
@@ -87,18 +87,18 @@ fn graphs_give_both_sets(alloc: Global, config: &Config) -> Result<bool, GraphFa
 }
 
 /// What the graphs of the servers' names tell, in their order.
-fn told_by_graphs(
+fn told_by_graphs<'a>(
     alloc: Global,
     config: &Config,
-    hosts: &Hosts<'_>,
-) -> Result<List<AddressTold>, GraphFault>
+    hosts: &Hosts<'a>,
+) -> Result<List<AddressTold<'a>>, GraphFault>
     ensures { IfOk result (λ told. length told ≡ length config.now.servers) }
 {
     let mut told = List::new(alloc);
     for server in config.servers.items() {
         let query = server.name.copy(alloc)?;
         let graph = graph_of(alloc, hosts, query)?;
-        told.push(AddressTold::ByGraph(graph))?;
+        told.push(told_by(alloc, hosts, &graph)?)?;
     }
     Ok(told)
 }

@@ -1,6 +1,7 @@
-use Rattle.std.proofs.Common.{◌≡◌, ◌+◌, List, ℕ, length, subst, sym, ap, ◌∙◌, arith, rules}
+use Rattle.std.proofs.Common.{◌≡◌, ◌+◌, ◌<◌, List, ℕ, length, subst, sym, ap, ◌∙◌, arith, rules}
 use Rattle.io_edges.specs.Files.{first_told}
 use Rattle.io_edges.proofs.Told.{first_told-long}
+use Rattle.config_load.specs.Limits.{most_octets}
 use Rattle.master_read.specs.Reader.{IsReaderOf}
 use Rattle.master_read.specs.declared.asked.AfterFile.{AfterFile}
 use Rattle.config_load.proofs.Follows.{Follows-whole, Answers-too_long}
@@ -18,7 +19,7 @@ returns-then-count-eq0-clause-asked g c =
     let long : length octets ≡ at = ap (λ n. length (first_told (told name) n)) (sym none) ∙ (c.in_ok-count.ensures.long ∙ none) in
     record {
       octets = octets;
-      whole = Follows-whole told name octets (c.in_ok-count.ensures.end c.if-count-eq0.true) (omega (arith, long, c.loop-at-test.true));
+      whole = Follows-whole c.args.limits told name octets (c.in_ok-count.ensures.end c.if-count-eq0.true) (omega (arith, long, c.most_octets-most.ensures.is, c.loop-at-test.true));
       ended = λ origin room includes ended before.
           let fed : IsReaderOf c.feed_more.new.reader origin room includes ended octets = subst (λ (n : ℕ). IsReaderOf c.feed_more.new.reader origin room includes ended (first_told (told name) n)) none (c.in_ok-count.ensures.stands origin room includes ended (c.loop-at.invariant.stands origin room includes ended before)) in
           (c.in_ok-end_file.ensures.asked origin room includes ended octets fed, c.in_ok-end_file.ensures.stands origin room includes ended octets fed);
@@ -37,11 +38,13 @@ loop-at-preserved g c = record {
 pub returns-clause-fault : goal.returns-clause-fault
 returns-clause-fault g c =
     let told = g.F.Files.told c.loop-at.files in
-    Answers-too_long told c.args.name.now c.too_long.result c.too_long.ensures (first_told-long (told c.args.name.now) c.loop-at.at 16777216 c.loop-at.invariant.long (omega (arith, c.loop-at-test.false)))
+    let long : most_octets c.args.limits < c.loop-at.at = omega (arith, c.most_octets-most.ensures.is, c.loop-at-test.false) in
+    Answers-too_long c.args.limits told c.args.name.now c.too_long.result c.too_long.ensures
+    (first_told-long (told c.args.name.now) c.loop-at.at (most_octets c.args.limits) c.loop-at.invariant.long long)
 
 pub returns-in_err-count-clause-fault : goal.returns-in_err-count-clause-fault
 returns-in_err-count-clause-fault g c =
-    FailsToRead-passed (g.F.Files.told c.feed_more.new.files) c.args.name.now c.in_err-count.field-0.0 c.from_residual.result c.in_err-count.ensures.fault c.from_residual.ensures.1
+    FailsToRead-passed c.args.limits (g.F.Files.told c.feed_more.new.files) c.args.name.now c.in_err-count.field-0.0 c.from_residual.result c.in_err-count.ensures.fault c.from_residual.ensures.1
 
 pub returns-in_err-count-clause-cause : goal.returns-in_err-count-clause-cause
 returns-in_err-count-clause-cause g c =
@@ -78,7 +81,7 @@ loop-at-init g c =
 
 pub returns-in_err-end_file-clause-fault : goal.returns-in_err-end_file-clause-fault
 returns-in_err-end_file-clause-fault g c =
-    FailsToRead-wanting (g.F.Files.told c.feed_more.new.files) c.args.name.now c.from_residual-in_err-end_file.result c.from_residual-in_err-end_file.ensures.1
+    FailsToRead-wanting c.args.limits (g.F.Files.told c.feed_more.new.files) c.args.name.now c.from_residual-in_err-end_file.result c.from_residual-in_err-end_file.ensures.1
 
 pub returns-in_err-end_file-clause-cause : goal.returns-in_err-end_file-clause-cause
 returns-in_err-end_file-clause-cause g c =

@@ -1,4 +1,4 @@
-use Rattle.std.proofs.Common.{◌≡◌, ◌≤◌, ◌-◌, false, length, []}
+use Rattle.std.proofs.Common.{◌≡◌, ◌+◌, ◌≤◌, ◌-◌, false, length, []}
 use Rattle.io_edges.specs.Files.{first_told}
 use Rattle.config_load.specs.Fed.{IsFed}
 use Rattle.config_load.specs.Sources.{ReadsOnly}
@@ -8,7 +8,7 @@ use Rattle.config_load.proofs.file.feed_whole.Given as goal
 abbrev pub invariant-loop-at : goal.invariant-loop-at
 invariant-loop-at g l = record {
   long : length (first_told (g.F.Files.told l.files l.name) l.at) ≡ l.at;
-  short : l.at ≤ 16777217;
+  short : l.at ≤ l.most + 1;
   still_open : l.reader.ended ≡ false;
   fed : l.reader.fed ≡ l.at;
   stands : IsFed l.fn.reader [] l.reader (first_told (g.F.Files.told l.files l.name) l.at);
@@ -16,4 +16,4 @@ invariant-loop-at g l = record {
 }
 
 abbrev pub decreases-loop-at : goal.decreases-loop-at
-decreases-loop-at g l = 16777217 - l.at
+decreases-loop-at g l = l.most + 1 - l.at

@@ -1,5 +1,5 @@
 use Rattle.io_edges.proofs.Told.{TellsAll-same}
-use Rattle.config_load.specs.Conf.{loaded}
+use Rattle.config_load.specs.Conf.{loaded_within}
 use Rattle.config_load.proofs.Answered.{Gives-answers, FailedWhereItCame-answers, IsReadFault-misses, IsReadFault-unknown}
 use Rattle.config_load.proofs.Opens.{OpensNoOther-answers}
 use Rattle.config_load.proofs.Steady.{Gives-later, loaded_is_steady}
@@ -7,26 +7,26 @@ use Rattle.config_load.proofs.loading.load_with_files.Goals as goal
 
 pub returns-clause-gives : goal.returns-clause-gives
 returns-clause-gives g c =
-    Gives-answers (g.F.Files.told c.read_loaded.new.files) (loaded c.args.meta.now) c.read_loaded.result c.read_loaded.ensures.answers
+    Gives-answers (g.F.Files.told c.read_loaded.new.files) (loaded_within c.args.limits c.args.meta.now) c.read_loaded.result c.read_loaded.ensures.answers
 
 pub returns-clause-later : goal.returns-clause-later
 returns-clause-later g c later more =
-    Gives-later (loaded_is_steady c.args.meta.now) (g.F.Files.told c.read_loaded.new.files) later c.read_loaded.result more
-    (Gives-answers (g.F.Files.told c.read_loaded.new.files) (loaded c.args.meta.now) c.read_loaded.result c.read_loaded.ensures.answers)
+    Gives-later (loaded_is_steady c.args.limits c.args.meta.now) (g.F.Files.told c.read_loaded.new.files) later c.read_loaded.result more
+    (Gives-answers (g.F.Files.told c.read_loaded.new.files) (loaded_within c.args.limits c.args.meta.now) c.read_loaded.result c.read_loaded.ensures.answers)
 
 pub returns-clause-order : goal.returns-clause-order
 returns-clause-order g c =
-    FailedWhereItCame-answers (g.F.Files.told c.read_loaded.new.files) (loaded c.args.meta.now) c.read_loaded.result c.read_loaded.ensures.answers
+    FailedWhereItCame-answers (g.F.Files.told c.read_loaded.new.files) (loaded_within c.args.limits c.args.meta.now) c.read_loaded.result c.read_loaded.ensures.answers
 
 pub returns-clause-misses : goal.returns-clause-misses
 returns-clause-misses g c file is =
     let told = g.F.Files.told c.read_loaded.new.files in
-    IsReadFault-misses (loaded c.args.meta.now told) file c.read_loaded.result is (Gives-answers told (loaded c.args.meta.now) c.read_loaded.result c.read_loaded.ensures.answers)
+    IsReadFault-misses (loaded_within c.args.limits c.args.meta.now told) file c.read_loaded.result is (Gives-answers told (loaded_within c.args.limits c.args.meta.now) c.read_loaded.result c.read_loaded.ensures.answers)
 
 pub returns-clause-unknown : goal.returns-clause-unknown
 returns-clause-unknown g c file is =
     let told = g.F.Files.told c.read_loaded.new.files in
-    IsReadFault-unknown (loaded c.args.meta.now told) file c.read_loaded.result is (Gives-answers told (loaded c.args.meta.now) c.read_loaded.result c.read_loaded.ensures.answers)
+    IsReadFault-unknown (loaded_within c.args.limits c.args.meta.now told) file c.read_loaded.result is (Gives-answers told (loaded_within c.args.limits c.args.meta.now) c.read_loaded.result c.read_loaded.ensures.answers)
 
 pub returns-clause-from_the_start : goal.returns-clause-from_the_start
 returns-clause-from_the_start g c all =
@@ -34,7 +34,7 @@ returns-clause-from_the_start g c all =
 
 pub returns-clause-opens : goal.returns-clause-opens
 returns-clause-opens g c =
-    OpensNoOther-answers (loaded c.args.meta.now) (g.F.Files.told c.args.files.now) (g.F.Files.told c.read_loaded.new.files) c.read_loaded.ensures.source.opens
+    OpensNoOther-answers (loaded_within c.args.limits c.args.meta.now) (g.F.Files.told c.args.files.now) (g.F.Files.told c.read_loaded.new.files) c.read_loaded.ensures.source.opens
 
 pub returns-clause-cause : goal.returns-clause-cause
 returns-clause-cause g c = c.read_loaded.ensures.cause

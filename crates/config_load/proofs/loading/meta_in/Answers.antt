@@ -3,4 +3,4 @@ use Rattle.config_load.proofs.loading.meta_in.Goals as goal
 
 pub returns-clause-few : goal.returns-clause-few
 returns-clause-few c =
-    metadata-few c.args.octets.now c.in_ok-read_metadata.field-0 c.in_ok-read_metadata.ensures
+    metadata-few c.args.most c.args.octets.now c.in_ok-read_metadata_within.field-0 c.in_ok-read_metadata_within.ensures

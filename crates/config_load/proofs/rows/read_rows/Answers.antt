@@ -17,11 +17,11 @@ loop-i-init g c =
     let meta = c.args.meta.now in
     let all = c.args.all.now in
     let told = g.F.Files.told c.args.files.now in
-    let first : ReadRows = record { left = c.everything.result; servers = c.new.result; rows = c.new-2.result } in
-    let same : no_rows ≡ first = λ i. record { left = sym c.everything.ensures i; servers = sym c.new.ensures i; rows = sym c.new-2.ensures i } in
+    let first : ReadRows = record { left = c.args.limits; servers = c.new.result; rows = c.new-2.result } in
+    let same : no_rows c.args.limits ≡ first = λ i. record { left = c.args.limits; servers = sym c.new.ensures i; rows = sym c.new-2.ensures i } in
     record {
-      so_far = Follows-same told (with_rows meta 1 all no_rows) (with_rows meta 1 all first) (λ other. ap (λ (rows : ReadRows). with_rows meta 1 all rows other) same);
-      source = ReadsFor-none told (g.F.Files.faults c.args.files.now) (with_rows meta 1 all no_rows);
+      so_far = Follows-same told (with_rows meta 1 all (no_rows c.args.limits)) (with_rows meta 1 all first) (λ other. ap (λ (rows : ReadRows). with_rows meta 1 all rows other) same);
+      source = ReadsFor-none told (g.F.Files.faults c.args.files.now) (with_rows meta 1 all (no_rows c.args.limits));
     }
 
 pub returns-in_err-rows : goal.returns-in_err-rows
@@ -32,7 +32,7 @@ returns-in_err-rows g c =
     let old = g.F.Files.told c.loop-i.files in
     let new = g.F.Files.told c.read_row.new.files in
     let rest = rest-more all i c.index-all-i.result c.loop-i-test.true c.index-all-i.is in
-    HasAnswered-then {whole = with_rows meta 1 all no_rows} {rest = with_rows meta (i + 1) (drop i all) c.loop-i.rows} c.loop-i.invariant.so_far c.loop-i.invariant.source
+    HasAnswered-then {whole = with_rows meta 1 all (no_rows c.args.limits)} {rest = with_rows meta (i + 1) (drop i all) c.loop-i.rows} c.loop-i.invariant.so_far c.loop-i.invariant.source
     (subst (λ (rows : List MetaRow). HasAnswered old new (g.F.Files.faults c.loop-i.files) (g.F.Files.faults c.read_row.new.files) (with_rows meta (i + 1) rows c.loop-i.rows) c.from_residual.result) (sym rest)
     (HasAnswered-first_row meta (i + 1) c.index-all-i.result (drop (i + 1) all) c.loop-i.rows c.in_err-rows.field-0.0 c.from_residual.result c.from_residual.ensures.1 c.in_err-rows.ensures))
 
@@ -45,10 +45,10 @@ loop-i-preserved g c =
     let new = g.F.Files.told c.read_row.new.files in
     let rest = rest-more all i c.index-all-i.result c.loop-i-test.true c.index-all-i.is in
     record {
-      so_far = Follows-then old new (with_rows meta 1 all no_rows) (with_rows meta (i + 1) (drop i all) c.loop-i.rows) (with_rows meta (i + 1 + 1) (drop (i + 1) all) c.in_ok-rows.rows) c.in_ok-rows.ensures.source.stays c.loop-i.invariant.so_far
+      so_far = Follows-then old new (with_rows meta 1 all (no_rows c.args.limits)) (with_rows meta (i + 1) (drop i all) c.loop-i.rows) (with_rows meta (i + 1 + 1) (drop (i + 1) all) c.in_ok-rows.rows) c.in_ok-rows.ensures.source.stays c.loop-i.invariant.so_far
           (subst (λ (rows : List MetaRow). Follows new (with_rows meta (i + 1) rows c.loop-i.rows) (with_rows meta (i + 1 + 1) (drop (i + 1) all) c.in_ok-rows.rows)) (sym rest)
           (Follows-first_row meta (i + 1) c.index-all-i.result (drop (i + 1) all) c.loop-i.rows new c.in_ok-rows.rows c.in_ok-rows.ensures.answers));
-      source = ReadsFor-then {whole = with_rows meta 1 all no_rows} {rest = with_rows meta (i + 1) (drop i all) c.loop-i.rows} c.loop-i.invariant.so_far c.loop-i.invariant.source
+      source = ReadsFor-then {whole = with_rows meta 1 all (no_rows c.args.limits)} {rest = with_rows meta (i + 1) (drop i all) c.loop-i.rows} c.loop-i.invariant.so_far c.loop-i.invariant.source
           (subst (λ (rows : List MetaRow). ReadsFor old new (g.F.Files.faults c.loop-i.files) (g.F.Files.faults c.read_row.new.files) (with_rows meta (i + 1) rows c.loop-i.rows)) (sym rest)
           (ReadsFor-first_row meta (i + 1) c.index-all-i.result (drop (i + 1) all) c.loop-i.rows c.in_ok-rows.ensures.source));
     }
@@ -61,6 +61,6 @@ returns g c =
     let told = g.F.Files.told c.loop-i.files in
     let faults = g.F.Files.faults c.loop-i.files in
     let answer : Result ReadRows LoadFault = Ok c.loop-i.rows in
-    HasAnswered-then {whole = with_rows meta 1 all no_rows} {rest = with_rows meta (i + 1) (drop i all) c.loop-i.rows} c.loop-i.invariant.so_far c.loop-i.invariant.source
+    HasAnswered-then {whole = with_rows meta 1 all (no_rows c.args.limits)} {rest = with_rows meta (i + 1) (drop i all) c.loop-i.rows} c.loop-i.invariant.so_far c.loop-i.invariant.source
     (HasAnswered-looked told faults (with_rows meta (i + 1) (drop i all) c.loop-i.rows) answer tt
     (Follows-same told (with_rows meta (i + 1) (drop i all) c.loop-i.rows) (λ _. Reads c.loop-i.rows) (λ other. with_rows-end meta all i c.loop-i.rows other c.loop-i-test.false)))

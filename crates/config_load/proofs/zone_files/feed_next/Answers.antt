@@ -10,7 +10,7 @@ use Rattle.config_load.proofs.zone_files.feed_next.Goals as goal
 -- no name could be made
 pub returns-in_err-name-clause-fault : goal.returns-in_err-name-clause-fault
 returns-in_err-name-clause-fault g c =
-    FailsToRead-wanting (g.F.Files.told c.args.files.now) (joined c.args.meta.now c.args.file.now) c.from_residual.result c.from_residual.ensures.1
+    FailsToRead-wanting c.args.left (g.F.Files.told c.args.files.now) (joined c.args.meta.now c.args.file.now) c.from_residual.result c.from_residual.ensures.1
 
 pub returns-in_err-name-clause-cause : goal.returns-in_err-name-clause-cause
 returns-in_err-name-clause-cause g c =
@@ -24,8 +24,8 @@ returns-in_err-name-clause-only g c =
 pub returns-in_err-asked-clause-fault : goal.returns-in_err-asked-clause-fault
 returns-in_err-asked-clause-fault g c =
     let told = g.F.Files.told c.feed_whole.new.files in
-    FailsToRead-again told (joined c.args.meta.now c.args.file.now) c.in_err-asked.field-0.0 c.from_residual-in_err-asked.result
-    (subst (λ (name : List ℕ). FailsToRead told name c.in_err-asked.field-0.0) (c.as_str.ensures ∙ c.in_ok-name.ensures) c.in_err-asked.ensures.fault)
+    FailsToRead-again c.args.left told (joined c.args.meta.now c.args.file.now) c.in_err-asked.field-0.0 c.from_residual-in_err-asked.result
+    (subst (λ (name : List ℕ). FailsToRead c.args.left told name c.in_err-asked.field-0.0) (c.as_str.ensures ∙ c.in_ok-name.ensures) c.in_err-asked.ensures.fault)
     c.from_residual-in_err-asked.ensures.1
 
 pub returns-in_err-asked-clause-cause : goal.returns-in_err-asked-clause-cause
@@ -39,7 +39,7 @@ returns-in_err-asked-clause-only g c =
 -- its name can't be put behind the others
 pub returns-in_err-push-clause-fault : goal.returns-in_err-push-clause-fault
 returns-in_err-push-clause-fault g c =
-    FailsToRead-wanting (g.F.Files.told c.feed_whole.new.files) (joined c.args.meta.now c.args.file.now) c.from_residual-in_err-push.result c.from_residual-in_err-push.ensures.1
+    FailsToRead-wanting c.args.left (g.F.Files.told c.feed_whole.new.files) (joined c.args.meta.now c.args.file.now) c.from_residual-in_err-push.result c.from_residual-in_err-push.ensures.1
 
 pub returns-in_err-push-clause-cause : goal.returns-in_err-push-clause-cause
 returns-in_err-push-clause-cause g c =
@@ -55,7 +55,7 @@ returns-clause-named g c = c.in_ok-push.ensures.ok ∙ ap (λ (name : List ℕ).
 
 pub returns-clause-asked : goal.returns-clause-asked
 returns-clause-asked g c =
-    subst (λ (name : List ℕ). HasFed (g.F.Files.told c.feed_whole.new.files) name c.args.reader.now c.in_ok-asked.asked c.feed_whole.new.reader) (c.as_str.ensures ∙ c.in_ok-name.ensures) c.in_ok-asked.ensures.asked
+    subst (λ (name : List ℕ). HasFed c.args.left (g.F.Files.told c.feed_whole.new.files) name c.args.reader.now c.in_ok-asked.asked c.feed_whole.new.reader) (c.as_str.ensures ∙ c.in_ok-name.ensures) c.in_ok-asked.ensures.asked
 
 pub returns-clause-only : goal.returns-clause-only
 returns-clause-only g c =

@@ -1,7 +1,16 @@
+use Rattle.std.proofs.Common.{subst}
+use Rattle.config_load.specs.Conf.{conf_within}
+use Rattle.config_load.specs.declared.limits.Limits.{Limits}
+use Rattle.net_model.specs.declared.config.Config.{Config}
+use Rattle.run_endings.specs.Ends.{EndsWithout}
 use Rattle.groot_run.proofs.Endings.{not_loaded}
 use Rattle.groot_run.proofs.load.configuration.Goals as goal
 
 pub returns-in-Err-clause-err : goal.returns-in-Err-clause-err
 returns-in-Err-clause-err g c =
-    not_loaded (g.F.Files.told c.load.new.files) (g.F.Files.faults c.args.files.now) (g.F.Files.faults c.load.new.files) c.args.meta.now c.in-Err.fault c.not_loaded.result
-    c.in-Err.ensures.gives c.in-Err.ensures.order c.in-Err.ensures.cause c.not_loaded.ensures
+    let told = g.F.Files.told c.load_within.new.files in
+    let before = g.F.Files.faults c.args.files.now in
+    let after = g.F.Files.faults c.load_within.new.files in
+    let meta = c.args.meta.now in
+    subst (λ (limits : Limits). EndsWithout {T = Config} meta (conf_within limits meta) told before after c.not_loaded.result) c.limits_of.ensures
+    (not_loaded c.limits_of.result told before after meta c.in-Err.fault c.not_loaded.result c.in-Err.ensures.gives c.in-Err.ensures.order c.in-Err.ensures.cause c.not_loaded.ensures)

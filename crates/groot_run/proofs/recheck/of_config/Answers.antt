@@ -1,16 +1,38 @@
 use Rattle.std.proofs.Common.{◌≡◌, ◌⊎◌, ℕ, List, subst}
-use Rattle.run_endings.specs.Endings.{no_memory}
+use Rattle.config_load.specs.Load.{ComesToFile}
+use Rattle.config_load.specs.Reading.{file_octets}
+use Rattle.config_load.specs.declared.limits.Limits.{Limits}
+use Rattle.run_endings.specs.Ends.{EndsOrFails}
+use Rattle.run_endings.specs.Endings.{OfReading, no_memory}
+use Rattle.run_endings.specs.declared.ending.Ending.{Ending}
+use Rattle.io_edges.specs.Files.{FilesTold}
 use Rattle.groot_run.specs.Outcome.{IsRechecked}
 use Rattle.groot_run.proofs.Rechecked.{over_file, over_no_file}
 use Rattle.groot_run.proofs.recheck.of_config.Goals as goal
 
+-- how a run ends over a file within these limits
+abbrev EndsWithin : FilesTold → (List ℕ → ℕ) → (List ℕ → ℕ) → List ℕ → (List ℕ → Ending → Type 0) → Ending → Limits → Type 0
+EndsWithin told before after file of_octets ending limits =
+    EndsOrFails (OfReading file of_octets (file_octets limits file told) ending) (ComesToFile (file_octets limits file) told) before after ending
+
 pub returns-in-Ok-clause-cause : goal.returns-in-Ok-clause-cause
 returns-in-Ok-clause-cause g c =
-    over_file (g.F.Files.told c.read_file.new.files) (g.F.Files.faults c.args.files.now) (g.F.Files.faults c.read_file.new.files) c.args.report.now c.in-Ok.octets
-    (IsRechecked c.args.report.now c.args.config.now) c.of_octets.result c.in-Ok.ensures.gives
-    (subst (λ (octets : List ℕ). IsRechecked c.args.report.now c.args.config.now octets c.of_octets.result ⊎ (c.of_octets.result ≡ no_memory)) c.items.ensures c.of_octets.ensures)
+    let told = g.F.Files.told c.read_file.new.files in
+    let before = g.F.Files.faults c.args.files.now in
+    let after = g.F.Files.faults c.read_file.new.files in
+    let report = c.args.report.now in
+    let config = c.args.config.now in
+    subst (EndsWithin told before after report (IsRechecked report config) c.of_octets.result) c.limits_of.ensures
+    (over_file c.limits_of.result told before after report c.in-Ok.octets (IsRechecked report config) c.of_octets.result c.in-Ok.ensures.gives
+    (subst (λ (octets : List ℕ). IsRechecked report config octets c.of_octets.result ⊎ (c.of_octets.result ≡ no_memory)) c.items.ensures c.of_octets.ensures))
 
 pub returns-in-Err-clause-cause : goal.returns-in-Err-clause-cause
 returns-in-Err-clause-cause g c =
-    over_no_file (g.F.Files.told c.read_file.new.files) (g.F.Files.faults c.args.files.now) (g.F.Files.faults c.read_file.new.files) c.args.report.now
-    (IsRechecked c.args.report.now c.args.config.now) c.in-Err.fault c.not_loaded.result c.in-Err.ensures.gives c.in-Err.ensures.order c.in-Err.ensures.cause c.not_loaded.ensures
+    let told = g.F.Files.told c.read_file.new.files in
+    let before = g.F.Files.faults c.args.files.now in
+    let after = g.F.Files.faults c.read_file.new.files in
+    let report = c.args.report.now in
+    let config = c.args.config.now in
+    subst (EndsWithin told before after report (IsRechecked report config) c.not_loaded.result) c.limits_of.ensures
+    (over_no_file c.limits_of.result told before after report (IsRechecked report config) c.in-Err.fault c.not_loaded.result c.in-Err.ensures.gives c.in-Err.ensures.order
+    c.in-Err.ensures.cause c.not_loaded.ensures)

@@ -6,7 +6,6 @@ use Rattle.net_model.specs.Tree.{IsInPart}
 use Rattle.query_classes.specs.ClassList.{AreListed, classes_of_rows}
 use Rattle.query_classes.proofs.SameGrounds.{listed_same}
 use Rattle.groot_run.specs.Counted.{EndsPast}
-use Rattle.groot_run.specs.Outcome.{scope_names}
 use Rattle.groot_run.proofs.ClassLists.{part_ends_past}
 use Rattle.groot_run.proofs.scope.rows_of.Goals as goal
 
@@ -22,6 +21,6 @@ pub returns-clause-err : goal.returns-clause-err
 returns-clause-err g c =
     let subject = g.N.Naming.subject in
     IfErr-weaker c.rows_at.result _ _
-    (λ ending ends. part_ends_past c.base_names.result.now subject.ground c.base_names.ensures subject.below scope_names ending
-    (subst (λ (above : Labels). EndsPast (IsInPart c.base_names.result.now above) scope_names ending) c.requires ends))
+    (λ ending ends. part_ends_past c.base_names.result.now subject.ground c.base_names.ensures subject.below c.args.names ending
+    (subst (λ (above : Labels). EndsPast (IsInPart c.base_names.result.now above) c.args.names ending) c.requires ends))
     c.rows_at.ensures.err

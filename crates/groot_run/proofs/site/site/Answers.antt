@@ -1,5 +1,5 @@
 use Rattle.std.proofs.Common.{inl, inr}
-use Rattle.groot_run.specs.Outcome.{WithinStates, TellsFindings, site_names, site_rewrites}
+use Rattle.groot_run.specs.Outcome.{WithinStates, TellsFindings, site_rewrites}
 use Rattle.groot_run.proofs.Endings.{without_rows}
 use Rattle.groot_run.proofs.site.site.Goals as goal
 
@@ -11,5 +11,5 @@ returns-in-Ok g c = elim c.find.ensures [
 
 pub returns-in-Err : goal.returns-in-Err
 returns-in-Err g c =
-    without_rows c.args.config.now site_names (WithinStates c.args.config.now site_rewrites (TellsFindings c.args.config.now _ c.in-Err.ending) c.in-Err.ending) c.in-Err.ending
+    without_rows c.args.config.now c.args.names (WithinStates c.args.config.now site_rewrites (TellsFindings c.args.config.now _ c.in-Err.ending) c.in-Err.ending) c.in-Err.ending
     c.in-Err.ensures.err

@@ -2,7 +2,7 @@ use Rattle.std.proofs.Common.{List, ℕ, refl, ap, subst, inl, inr}
 use Rattle.std.specs.Io.KnownBytes.{Appends}
 use Rattle.run_endings.specs.declared.ending.Ending.{Ending}
 use Rattle.run_endings.specs.Writing.{output_failed, TookProperFront}
-use Rattle.groot_run.proofs.run.groot_with_sites.Goals as goal
+use Rattle.groot_run.proofs.run.run_program.Goals as goal
 
 pub returns-in-Ok-clause-headline : goal.returns-in-Ok-clause-headline
 returns-in-Ok-clause-headline g c = λ meta workers classes rewrites config job reads none quiet. (
