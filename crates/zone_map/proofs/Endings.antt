@@ -1,10 +1,10 @@
 -- How the run of a job ends is how the run of its words ends.
 use Rattle.std.proofs.Common.{◌≡◌, ◌≢◌, ℕ, Bool, true, false, List, [], ◌∷◌, Option, Some, None, Err, sym, subst, inl, inr, refl}
 use Rattle.std.specs.Prelude.{◌⊎◌, IsTrue, if◌then◌else◌}
-use Rattle.std.specs.List.{list_all}
+use Rattle.std.specs.List.{list_all, list_any}
 use Rattle.io_edges.specs.Counts.{Rose}
 use Rattle.io_edges.specs.Files.{FilesTold}
-use Rattle.config_load.specs.Conf.{loaded}
+use Rattle.zone_map.specs.Loaded.{loaded}
 use Rattle.config_load.specs.Faults.{FailedAt}
 use Rattle.config_load.specs.Load.{FailedWhereItCame, Gives}
 use Rattle.config_load.specs.Reading.{Reading, Reads, Refuses, Misses, Unknown}
@@ -17,11 +17,16 @@ use Rattle.run_endings.specs.declared.ending.Ending.{Ending}
 use Rattle.run_endings.specs.declared.status.Status.{Status}
 use Rattle.run_endings.specs.declared.status.Status.TheVariants.{Clean, Faults, ReadFault, WriteFault}
 use Rattle.zone_map.specs.JobEnds.{JobEnds}
+use Rattle.zone_map.specs.Copies.{copies_of}
+use Rattle.zone_map.specs.Delegations.{delegations_of}
+use Rattle.zone_map.specs.Lines.{lines_text, with_lines}
 use Rattle.zone_map.specs.Outcome.{TellsAsked, Outcome, IsEnding, JobComesTo, NoJobReadFailed}
 use Rattle.zone_map.specs.Reached.{reached_text}
+use Rattle.zone_map.specs.Servers.{servers_of}
+use Rattle.zone_map.specs.declared.lines.Line.{Line}
 use Rattle.zone_map.specs.Targets.{targets_status, targets_text}
 use Rattle.zone_map.specs.declared.words.MapView.{MapView}
-use Rattle.zone_map.specs.declared.words.MapView.TheVariants.{Records, Reached, Targets}
+use Rattle.zone_map.specs.declared.words.MapView.TheVariants.{Records, Reached, Targets, Delegations, Copies, Servers}
 use Rattle.zone_map.specs.declared.words.MapJob.{MapJob}
 
 -- ---- by what the files give
@@ -75,6 +80,12 @@ module _ (told : FilesTold) (said : Option MapJob) (before after : List ℕ → 
   by_test true out = tt
   by_test false out = tt
 
+  lines_say : (lines : List Line) → SaysSo (with_lines lines)
+  lines_say lines = by (list_any (λ line. line.counts) lines) where
+    by : (test : Bool) → Says (if test then Faults else Clean) (lines_text lines)
+    by true = tt
+    by false = tt
+
   of_asked : (asked : MapView) (all : Loaded) (ending : Ending) → TellsAsked asked all ending → SaysSo ending
   of_asked Records all ending is = subst SaysSo (sym is) tt
   of_asked Reached all ending (inl (server, first, is)) = subst SaysSo (sym is) refl
@@ -85,6 +96,11 @@ module _ (told : FilesTold) (said : Option MapJob) (before after : List ℕ → 
     by : (text out : List ℕ) → Says (targets_status text) out
     by [] out = tt
     by (octet ∷ text) out = tt
+  of_asked Delegations all ending (inl (server, first, is)) = subst SaysSo (sym is) refl
+  of_asked Delegations all ending (inr tells) = subst SaysSo (sym tells.as_lines) (lines_say (delegations_of all tells.ends))
+  of_asked Copies all ending is = subst SaysSo (sym is) (lines_say (copies_of all))
+  of_asked Servers all ending (inl (server, first, is)) = subst SaysSo (sym is) refl
+  of_asked Servers all ending (inr tells) = subst SaysSo (sym tells.as_lines) (lines_say (servers_of all tells.ends))
 
   of_reading : (meta : List ℕ) (asked : MapView) (ending : Ending) (reading : Reading Loaded) → OfReading meta (TellsAsked asked) reading ending → SaysSo ending
   of_reading meta asked ending (Reads all) tells = of_asked asked all ending tells

@@ -1,4 +1,8 @@
 pub mod AnsweredRows
+mod RowsBefore
+mod FirstCopies
+mod SideLines
+mod NamingLists
 pub mod ColumnTexts
 pub mod Endings
 pub mod ReachedViews

@@ -1,10 +1,12 @@
 -- How the walks of a name end: as the list of all walks that the resolver gives.
-use Rattle.std.proofs.Common.{◌≡◌, ℕ, ◌<◌, ◌≤◌, Bool, true, false, cond, List, length, Some, refl, ap, inl, inr, arith}
-use Rattle.std.specs.Prelude.{nat_lt}
+use Rattle.std.proofs.Common.{◌≡◌, ℕ, Bool, true, false, cond, List, length, map, Some, refl, ap, inl, inr, arith}
+use Rattle.std.specs.Prelude.{◌||◌, nat_lt}
 use Rattle.std.proofs.lemmas.Bool.Decides.{nat_tests}
+use Rattle.std.proofs.lemmas.List.Folds.{list_all-map}
 use Rattle.dns_data.specs.Name.{Labels}
 use Rattle.dns_data.specs.declared.rr_type.RrType.{RrType}
 use Rattle.dns_data.specs.declared.rr_type.RrType.TheVariants as types
+use Rattle.net_model.specs.declared.walk.Leaf.{Leaf}
 use Rattle.net_model.specs.declared.walk.Walk.{Walk}
 use Rattle.net_model.specs.Step.{Setting}
 use Rattle.net_model.specs.Walk.{AreWalks}
@@ -12,9 +14,18 @@ use Rattle.net_model.proofs.RoundsExist.{query_settles}
 use Rattle.net_model.proofs.WalkLists.{are_walks, one_walks, total}
 use Rattle.plain_resolver.specs.Passed.{HasMoreWalks}
 use Rattle.plain_resolver.proofs.Resolved.{has_more, has_no_more}
-use Rattle.zone_map.specs.Targets.{AreTargetEnds, EndSo, dead_ends, most_target_walks}
-use Rattle.zone_map.specs.TargetsAsked.{ends_in, type_ends}
+use Rattle.zone_map.specs.Targets.{AreTargetEnds, EndSo, dead_ends, is_no_data, is_no_name, most_target_walks}
+use Rattle.zone_map.specs.TargetsAsked.{dead_leaves, ends_in, type_ends}
 use Rattle.zone_map.specs.declared.target_ends.DeadEnds.TheVariants.{TooMany}
+
+-- the ends of walks tell how the walks end
+pub leaves_tell : (walks : List Walk) → dead_leaves (map (λ (walk : Walk). walk.leaf) walks) ≡ dead_ends walks
+leaves_tell walks =
+    rw (
+      list_all-map is_no_data (λ (walk : Walk). walk.leaf) walks,
+      list_all-map is_no_name (λ (walk : Walk). walk.leaf) walks,
+      list_all-map (λ (leaf : Leaf). is_no_data leaf || is_no_name leaf) (λ (walk : Walk). walk.leaf) walks,
+    ) refl
 
 module _ (setting : Setting) (name : Labels) (rtype : RrType) where
   -- all walks of the name, in order

@@ -1,5 +1,5 @@
 -- Values of the definitions that were worked out by hand.
-use Rattle.std.proofs.Common.{◌≡◌, ℕ, true, false, List, [], ◌∷◌, ◌++◌, codes, Some, None, refl}
+use Rattle.std.proofs.Common.{◌≡◌, ℕ, true, false, List, [], ◌∷◌, ◌++◌, map, codes, Some, None, refl}
 use Rattle.std.specs.Fmt.{digits}
 use Rattle.dns_data.specs.Name.{Labels}
 use Rattle.dns_data.specs.declared.rdata.Rdata.TheVariants.{A, Mx, Ns, Other, Srv}
@@ -8,7 +8,9 @@ use Rattle.net_model.specs.declared.config.Config.{Config}
 use Rattle.net_model.specs.declared.walk.Leaf.{Leaf}
 use Rattle.net_model.specs.declared.walk.Leaf.TheVariants as leaves
 use Rattle.net_model.specs.declared.walk.Walk.{Walk}
+use Rattle.master_read.specs.Words.{other_words}
 use Rattle.config_load.specs.declared.loaded.RowFiles.{RowFiles}
+use Rattle.kept_data.specs.Numbers.{type_words}
 use Rattle.zone_map.specs.Columns.{file_text, columns_line, as_written}
 use Rattle.zone_map.specs.Records.{records_text, told_data, type_text}
 use Rattle.zone_map.specs.Targets.{dead_ends, is_reverse, target_in, targets_text}
@@ -34,6 +36,11 @@ other_type = refl
 
 other_data : told_data (Other (codes "DS") (codes "1" ∷ codes "x y" ∷ [])) ≡ codes "1 x\\032y"
 other_data = refl
+
+-- The types beyond the twelve that have a number are those that are read.
+
+same_words : map (λ one. one.0) type_words ≡ other_words
+same_words = refl
 
 -- The records of two rows, one of which has an included file.
 

@@ -3,6 +3,7 @@ use Rattle.std.specs.Prelude.{ℕ, List, [], ◌∷◌, ◌++◌, ◌&&◌, nat_
 use Rattle.std.specs.List.{flat_map}
 use Rattle.dns_data.specs.DataText.{separated}
 use Rattle.dns_data.specs.Octet.{escaped_as}
+use Rattle.config_load.specs.FileName.{shown_octet}
 
 -- a tab
 abbrev pub tab : List ℕ
@@ -12,10 +13,9 @@ tab = 9 ∷ []
 abbrev pub columns_line : List (List ℕ) → List ℕ
 columns_line columns = separated tab columns ++ codes "\n"
 
--- an octet of a file's name: a tab, a line feed and a backslash stand behind a backslash, the first two as letters
+-- an octet of a file's name: as lines for people show it, but for a backslash, which stands behind one
 abbrev pub file_octet_text : ℕ → List ℕ
-file_octet_text octet =
-    if octet == 9 then codes "\\t" else (if octet == 10 then codes "\\n" else (if octet == 92 then codes "\\\\" else octet ∷ []))
+file_octet_text octet = if octet == 92 then codes "\\\\" else shown_octet octet
 
 -- the name of a file
 abbrev pub file_text : List ℕ → List ℕ

@@ -5,6 +5,16 @@ pub use Rattle.config_load.specs.Reading
 pub use Rattle.run_endings.specs.Endings
 pub use Rattle.run_endings.specs.Writing
 pub mod Columns
+pub mod Loaded
+pub mod Lines
+pub mod Asked
+pub mod Copies
+pub mod FirstCopies
+pub mod RowZones
+pub mod Delegations
+pub mod SideFaults
+pub mod Servers
+pub mod Namings
 pub mod Records
 pub mod Rewrites
 pub mod Reached
@@ -15,4 +25,5 @@ pub mod Targets
 pub mod TargetsAsked
 pub mod Words
 pub mod Outcome
+pub mod EndsWords
 pub mod JobEnds

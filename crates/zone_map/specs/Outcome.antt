@@ -2,27 +2,35 @@
 use Rattle.std.specs.Prelude.{◌≡◌, ◌⊎◌, ℕ, List, Option, Some, None}
 use Rattle.io_edges.specs.Counts.{Rose}
 use Rattle.io_edges.specs.Files.{FilesTold}
-use Rattle.config_load.specs.Conf.{loaded}
+use Rattle.zone_map.specs.Loaded.{loaded}
 use Rattle.config_load.specs.Load.{ComesToFile}
 use Rattle.config_load.specs.declared.loaded.Loaded.{Loaded}
 use Rattle.run_endings.specs.Endings.{OfReading, with_output, without_output, read_failed, no_memory}
 use Rattle.run_endings.specs.declared.ending.Ending.{Ending}
 use Rattle.run_endings.specs.declared.status.Status.TheVariants.{Clean, Usage}
+use Rattle.zone_map.specs.Copies.{copies_of}
+use Rattle.zone_map.specs.Delegations.{IsDelegations}
 use Rattle.zone_map.specs.Limits.{WithinLimits}
+use Rattle.zone_map.specs.Lines.{with_lines}
 use Rattle.zone_map.specs.Reached.{TellsRows}
 use Rattle.zone_map.specs.Records.{records_text}
+use Rattle.zone_map.specs.Servers.{IsServers}
 use Rattle.zone_map.specs.Targets.{IsTargets}
 use Rattle.zone_map.specs.Words.{usage_line}
 use Rattle.zone_map.specs.declared.words.MapView.{MapView}
-use Rattle.zone_map.specs.declared.words.MapView.TheVariants.{Records, Reached, Targets}
+use Rattle.zone_map.specs.declared.words.MapView.TheVariants.{Records, Reached, Targets, Delegations, Copies, Servers}
 use Rattle.zone_map.specs.declared.words.MapJob.{MapJob}
 
 -- what a view prints of a configuration: for `records` the lines of all records, for `reached` the lines of all rows,
--- for `targets` the lines of the records whose target leads nowhere
+-- for `targets` the lines of the records whose target leads nowhere, for `delegations` those of the zone cuts and origins at
+-- which something is told, for `copies` those of all copies, for `servers` those of all names of name servers
 abbrev pub TellsAsked : MapView → Loaded → Ending → Type 0
 TellsAsked Records all ending = ending ≡ with_output Clean (records_text all)
 TellsAsked Reached all ending = WithinLimits all.config all.rows (TellsRows all.config all.rows ending) ending
 TellsAsked Targets all ending = IsTargets all ending
+TellsAsked Delegations all ending = IsDelegations all ending
+TellsAsked Copies all ending = ending ≡ with_lines (copies_of all)
+TellsAsked Servers all ending = IsServers all ending
 
 -- what the words' job gives, by what is told of the files
 abbrev pub Outcome : FilesTold → Option MapJob → Ending → Type 0

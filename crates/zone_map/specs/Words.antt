@@ -3,7 +3,7 @@ use Rattle.std.specs.Prelude.{ℕ, nat_eq, Bool, ◌&&◌, not, List, [], ◌∷
 use Rattle.std.specs.List.{find, starts_with}
 use Rattle.dns_data.specs.Rdata.{octets_eq}
 use Rattle.zone_map.specs.declared.words.MapView.{MapView}
-use Rattle.zone_map.specs.declared.words.MapView.TheVariants.{Records, Reached, Targets}
+use Rattle.zone_map.specs.declared.words.MapView.TheVariants.{Records, Reached, Targets, Delegations, Copies, Servers}
 use Rattle.zone_map.specs.declared.words.MapJob.{MapJob}
 
 -- the word of what may be asked for
@@ -11,10 +11,13 @@ abbrev pub asked_word : MapView → List ℕ
 asked_word Records = codes "records"
 asked_word Reached = codes "reached"
 asked_word Targets = codes "targets"
+asked_word Delegations = codes "delegations"
+asked_word Copies = codes "copies"
+asked_word Servers = codes "servers"
 
 -- what may be asked for
 abbrev pub all_asked : List MapView
-all_asked = Records ∷ Reached ∷ Targets ∷ []
+all_asked = Records ∷ Reached ∷ Targets ∷ Delegations ∷ Copies ∷ Servers ∷ []
 
 -- what a word asks for, which is compared as written
 abbrev pub asked_by_word : List ℕ → Option MapView
@@ -35,4 +38,4 @@ job_of words = None
 
 -- the line on err where the words are no job
 abbrev pub usage_line : List ℕ
-usage_line = codes "usage: groot-map records META | reached META | targets META\n"
+usage_line = codes "usage: groot-map records META | reached META | targets META | delegations META | copies META | servers META\n"

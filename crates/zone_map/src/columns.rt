@@ -1,10 +1,10 @@
 //! Columns of lines.
 
 ghost use Rattle.std.specs.Prelude.{◌≡◌, ◌++◌, codes, decimal, OnOk};
-ghost use Rattle.dns_data.specs.Octet.{decimal_escape};
 ghost use Rattle.dns_data.specs.Spelling.{name_text};
 ghost use Rattle.zone_map.specs.Columns.{file_octet_text, file_text, tab, as_written, written_octet};
 
+use config_load::{put_decimal_escape, put_shown_octet};
 use dns_data::{Name, NoMemory, Octets};
 use itoa::Buffer;
 use std::alloc::Global;
@@ -47,10 +47,8 @@ fn put_file_octet(alloc: Global, text: &mut Octets, octet: u8) -> Result<(), NoM
     ensures { OnOk result (text.new ≡ text.old ++ file_octet_text octet) }
 {
     match octet {
-        b'\t' => text.extend_from_slice(alloc, b"\\t"),
-        b'\n' => text.extend_from_slice(alloc, b"\\n"),
         b'\\' => text.extend_from_slice(alloc, b"\\\\"),
-        _ => text.push(alloc, octet),
+        _ => put_shown_octet(alloc, text, octet),
     }
 }
 
@@ -72,17 +70,4 @@ fn put_written_octet(alloc: Global, text: &mut Octets, octet: u8) -> Result<(), 
         return text.push(alloc, octet);
     }
     put_decimal_escape(alloc, text, octet)
-}
-
-/// Puts a backslash and the octet's number in three digits at the end.
-fn put_decimal_escape(alloc: Global, text: &mut Octets, octet: u8) -> Result<(), NoMemory>
-    ensures { OnOk result (text.new ≡ text.old ++ decimal_escape octet) }
-{
-    let digits = [
-        b'\\',
-        b'0' + octet / 100,
-        b'0' + octet / 10 % 10,
-        b'0' + octet % 10,
-    ];
-    text.extend_from_slice(alloc, &digits)
 }

@@ -4,25 +4,31 @@ ghost use Rattle.std.specs.Prelude.{◌≡◌, ◌≢◌, ◌⊎◌, ℕ, List, 
 ghost use Rattle.std.specs.Io.KnownBytes.{Appends, Keeps};
 ghost use Rattle.io_edges.specs.Counts.{Rose};
 ghost use Rattle.io_edges.specs.Files.{TellsAll};
-ghost use Rattle.config_load.specs.Conf.{loaded};
+ghost use Rattle.zone_map.specs.Loaded.{loaded};
 ghost use Rattle.config_load.specs.Reading.{Reads};
 ghost use Rattle.config_load.specs.declared.loaded.Loaded.{Loaded as Read};
 ghost use Rattle.run_endings.specs.Endings.{no_memory, writes_nothing};
 ghost use Rattle.run_endings.specs.Writing.{IsLeft, TookLine};
 ghost use Rattle.run_endings.specs.declared.ending.Ending.{Ending as Ended};
 ghost use Rattle.zone_map.specs.JobEnds.{JobEnds};
+ghost use Rattle.zone_map.specs.Copies.{copies_of};
+ghost use Rattle.zone_map.specs.Delegations.{IsDelegations};
 ghost use Rattle.zone_map.specs.Limits.{WithinLimits};
+ghost use Rattle.zone_map.specs.Lines.{lines_status, lines_text};
 ghost use Rattle.zone_map.specs.Outcome.{IsEnding, JobComesTo, JobOpensNoOther, NoJobReadFailed, Outcome, TellsAsked};
 ghost use Rattle.zone_map.specs.Reached.{TellsRows};
 ghost use Rattle.zone_map.specs.Records.{records_text};
+ghost use Rattle.zone_map.specs.Servers.{IsServers};
 ghost use Rattle.zone_map.specs.Targets.{IsTargets};
 ghost use Rattle.zone_map.specs.Words.{job_of};
 
+use crate::by_ends::{EndsWord, told_by_ends};
+use crate::copies::copies_ending;
 use crate::reached_rows::reached_rows;
 use crate::records::records_text;
 use crate::targets::targets_ending;
 use crate::words::{MapJob, MapView, read_words, usage_line};
-use config_load::{Loaded, load_with_files};
+use config_load::{Limits, Loaded, load_with_files};
 use dns_data::NoMemory;
 use io_edges::{Failed, Files, Sink};
 use run_endings::{Ending, Status, tell, write_all};
@@ -63,6 +69,35 @@ pub fn groot_map<F: Files, O: Sink, E: Sink>(
         NoJobReadFailed (F.told files.new) (job_of (map (λ word. word.now) words.now)) (F.faults files.old) (F.faults files.new) →
         (Rose (O.faults out.old) (O.faults out.new) → ⊥) →
         ((ending : Ended) × IsTargets all ending × (result ≡ ending.status) × Appends (O.taken out.old) (O.taken out.new) ending.out)
+        ⊎ (result ≡ Status.NoMemory) }
+
+    // `delegations` writes exactly the lines of the name servers of each zone's cuts and origin: the faults of delegations
+    // that need no walk, and the name servers of which no query finds an address.
+    ensures delegations { (meta : List ℕ) (all : Read) →
+        job_of (map (λ word. word.now) words.now) ≡ Some (record { asked = MapView.Delegations; meta = meta }) →
+        loaded meta (F.told files.new) ≡ Reads all →
+        NoJobReadFailed (F.told files.new) (job_of (map (λ word. word.now) words.now)) (F.faults files.old) (F.faults files.new) →
+        (Rose (O.faults out.old) (O.faults out.new) → ⊥) →
+        ((ending : Ended) × IsDelegations all ending × (result ≡ ending.status) × Appends (O.taken out.old) (O.taken out.new) ending.out)
+        ⊎ (result ≡ Status.NoMemory) }
+
+    // `copies` writes exactly how each copy of a zone stands to the first with its origin, in the order of rows.
+    ensures copies { (meta : List ℕ) (all : Read) →
+        job_of (map (λ word. word.now) words.now) ≡ Some (record { asked = MapView.Copies; meta = meta }) →
+        loaded meta (F.told files.new) ≡ Reads all →
+        NoJobReadFailed (F.told files.new) (job_of (map (λ word. word.now) words.now)) (F.faults files.old) (F.faults files.new) →
+        (Rose (O.faults out.old) (O.faults out.new) → ⊥) →
+        ((result ≡ lines_status (copies_of all)) × Appends (O.taken out.old) (O.taken out.new) (lines_text (copies_of all)))
+        ⊎ (result ≡ Status.NoMemory) }
+
+    // `servers` writes exactly the line of each name that an NS record of an origin or of a zone cut has, and of each
+    // configured server, in the order of names.
+    ensures servers { (meta : List ℕ) (all : Read) →
+        job_of (map (λ word. word.now) words.now) ≡ Some (record { asked = MapView.Servers; meta = meta }) →
+        loaded meta (F.told files.new) ≡ Reads all →
+        NoJobReadFailed (F.told files.new) (job_of (map (λ word. word.now) words.now)) (F.faults files.old) (F.faults files.new) →
+        (Rose (O.faults out.old) (O.faults out.new) → ⊥) →
+        ((ending : Ended) × IsServers all ending × (result ≡ ending.status) × Appends (O.taken out.old) (O.taken out.new) ending.out)
         ⊎ (result ≡ Status.NoMemory) }
 
     // Where nothing failed, the run is the outcome of the words' job.
@@ -136,7 +171,7 @@ fn of_job<F: Files>(alloc: Global, files: &mut F, job: &MapJob) -> Ending
     ensures opens { JobOpensNoOther (F.told files.old) (F.told files.new) (Some job.now) }
 {
     let meta = job.meta.as_str();
-    match load_with_files(alloc, files, meta) {
+    match load_with_files(alloc, Limits::largest(), files, meta) {
         Ok(all) => told(alloc, job.asked, &all),
         Err(fault) => Ending::not_loaded(alloc, meta, fault),
     }
@@ -150,5 +185,8 @@ fn told(alloc: Global, asked: MapView, all: &Loaded) -> Ending
         MapView::Records => Ending::written(Status::Clean, records_text(alloc, all)),
         MapView::Reached => reached_rows(alloc, &all.config, all.rows.items()),
         MapView::Targets => targets_ending(alloc, all),
+        MapView::Delegations => told_by_ends(alloc, all, EndsWord::Delegations),
+        MapView::Copies => copies_ending(alloc, all),
+        MapView::Servers => told_by_ends(alloc, all, EndsWord::Servers),
     }
 }

@@ -5,15 +5,15 @@ ghost use Rattle.std.specs.List.{list_all, list_any};
 ghost use Rattle.dns_data.specs.Name.{name_eq};
 ghost use Rattle.net_model.specs.Step.{Setting, following};
 ghost use Rattle.std.specs.Option.{option_map};
-ghost use Rattle.zone_map.specs.Targets.{dead_ends, ends_word, host_of, is_no_data, is_no_name, is_reverse, origins_of, target_in};
+ghost use Rattle.zone_map.specs.Targets.{ends_word, host_of, is_no_data, is_no_name, is_reverse, origins_of, target_in};
 ghost use Rattle.zone_map.specs.Rewrites.{most_rewrites};
-ghost use Rattle.zone_map.specs.TargetsAsked.{AreKnown, ends_in, type_ends};
+ghost use Rattle.zone_map.specs.TargetsAsked.{AreKnown, dead_leaves, ends_in, type_ends};
 
 use crate::limits::{MOST_WALKS, REWRITES};
 use config_load::RowFiles;
 use dns_data::{List, Name, NoMemory, Rdata, Rr, RrType};
-use net_model::{Leaf, Walk};
-use plain_resolver::{ResolveFault, resolve_at};
+use net_model::Leaf;
+use plain_resolver::{ResolveFault, leaves_at};
 use std::alloc::Global;
 use std::collections::{BTreeMap, BTreeSet};
 use std::marker::Model;
@@ -222,49 +222,49 @@ fn type_ends(
 ) -> Result<Option<DeadEnds>, NoMemory>
     ensures { IfOk result (λ ends. ends ≡ type_ends (following hosts.now most_rewrites followed.now) name.now rtype) }
 {
-    match resolve_at(alloc, hosts, REWRITES, followed, name, rtype, MOST_WALKS) {
-        Ok(walks) => Ok(dead_ends(walks.items())),
+    match leaves_at(alloc, hosts, REWRITES, followed, name, rtype, MOST_WALKS) {
+        Ok(leaves) => Ok(dead_ends(leaves.items())),
         Err(ResolveFault::WalksPassed) => Ok(Some(DeadEnds::TooMany)),
         Err(ResolveFault::NoMemory) => Err(NoMemory),
     }
 }
 
-/// How walks end, unless one ends in something else than no data and no such name.
-fn dead_ends(walks: &[Walk]) -> Option<DeadEnds>
-    ensures { result ≡ dead_ends walks.now }
+/// How walks with these ends end, unless one ends in something else than no data and no such name.
+fn dead_ends(leaves: &[Leaf]) -> Option<DeadEnds>
+    ensures { result ≡ dead_leaves leaves.now }
 {
-    if all_no_data(walks) {
+    if all_no_data(leaves) {
         Some(DeadEnds::NoData)
-    } else if all_no_name(walks) {
+    } else if all_no_name(leaves) {
         Some(DeadEnds::NxDomain)
-    } else if all_dead(walks) {
+    } else if all_dead(leaves) {
         Some(DeadEnds::Either)
     } else {
         None
     }
 }
 
-/// Whether each walk ends in no data.
-fn all_no_data(walks: &[Walk]) -> bool
-    ensures { result ≡ list_all (λ walk. is_no_data walk.leaf) walks.now }
+/// Whether each end is no data.
+fn all_no_data(leaves: &[Leaf]) -> bool
+    ensures { result ≡ list_all is_no_data leaves.now }
 {
-    walks.iter().all(|walk| is_no_data(&walk.leaf))
+    leaves.iter().all(|leaf| is_no_data(leaf))
 }
 
-/// Whether each walk ends in no such name.
-fn all_no_name(walks: &[Walk]) -> bool
-    ensures { result ≡ list_all (λ walk. is_no_name walk.leaf) walks.now }
+/// Whether each end is no such name.
+fn all_no_name(leaves: &[Leaf]) -> bool
+    ensures { result ≡ list_all is_no_name leaves.now }
 {
-    walks.iter().all(|walk| is_no_name(&walk.leaf))
+    leaves.iter().all(|leaf| is_no_name(leaf))
 }
 
-/// Whether each walk ends in no data or in no such name.
-fn all_dead(walks: &[Walk]) -> bool
-    ensures { result ≡ list_all (λ walk. is_no_data walk.leaf || is_no_name walk.leaf) walks.now }
+/// Whether each end is no data or no such name.
+fn all_dead(leaves: &[Leaf]) -> bool
+    ensures { result ≡ list_all (λ leaf. is_no_data leaf || is_no_name leaf) leaves.now }
 {
-    walks
+    leaves
         .iter()
-        .all(|walk| is_no_data(&walk.leaf) || is_no_name(&walk.leaf))
+        .all(|leaf| is_no_data(leaf) || is_no_name(leaf))
 }
 
 /// Whether the end is no data (RFC 2308 section 2.2).

@@ -15,6 +15,12 @@ pub enum MapView {
     Reached,
     /// Each record whose target leads nowhere.
     Targets,
+    /// The faults of delegations that need no walk.
+    Delegations,
+    /// How each copy of a zone stands to the first.
+    Copies,
+    /// Each name of a name server.
+    Servers,
 }
 
 /// What is asked for, over which metadata file.
@@ -26,7 +32,14 @@ pub struct MapJob {
 
 impl MapView {
     /// What may be asked for.
-    const ALL: [MapView; 3] = [MapView::Records, MapView::Reached, MapView::Targets];
+    const ALL: [MapView; 6] = [
+        MapView::Records,
+        MapView::Reached,
+        MapView::Targets,
+        MapView::Delegations,
+        MapView::Copies,
+        MapView::Servers,
+    ];
 
     /// The word for what is asked for.
     fn word(&self) -> &'static str
@@ -36,6 +49,9 @@ impl MapView {
             MapView::Records => "records",
             MapView::Reached => "reached",
             MapView::Targets => "targets",
+            MapView::Delegations => "delegations",
+            MapView::Copies => "copies",
+            MapView::Servers => "servers",
         }
     }
 
@@ -87,5 +103,5 @@ fn job_over(alloc: Global, meta: &str, asked: Option<MapView>) -> Result<Option<
 pub(crate) fn usage_line() -> &'static str
     ensures { result.now ≡ usage_line }
 {
-    "usage: groot-map records META | reached META | targets META\n"
+    "usage: groot-map records META | reached META | targets META | delegations META | copies META | servers META\n"
 }

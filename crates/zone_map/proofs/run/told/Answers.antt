@@ -30,3 +30,24 @@ returns-in-Targets c =
       | inl is ↦ inl (subst (λ (asked : MapView). TellsAsked asked c.args.all.now c.targets_ending.result) (sym c.in-Targets.is) is)
       | inr ran_out ↦ inr ran_out
     ]
+
+pub returns-in-Delegations : goal.returns-in-Delegations
+returns-in-Delegations c =
+    elim c.told_by_ends.ensures [
+      | inl is ↦ inl (subst (λ (asked : MapView). TellsAsked asked c.args.all.now c.told_by_ends.result) (sym c.in-Delegations.is) is)
+      | inr ran_out ↦ inr ran_out
+    ]
+
+pub returns-in-Copies : goal.returns-in-Copies
+returns-in-Copies c =
+    elim c.copies_ending.ensures [
+      | inl is ↦ inl (subst (λ (asked : MapView). TellsAsked asked c.args.all.now c.copies_ending.result) (sym c.in-Copies.is) is)
+      | inr ran_out ↦ inr ran_out
+    ]
+
+pub returns-in-Servers : goal.returns-in-Servers
+returns-in-Servers c =
+    elim c.told_by_ends-in-Servers.ensures [
+      | inl is ↦ inl (subst (λ (asked : MapView). TellsAsked asked c.args.all.now c.told_by_ends-in-Servers.result) (sym c.in-Servers.is) is)
+      | inr ran_out ↦ inr ran_out
+    ]

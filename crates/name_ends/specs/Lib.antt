@@ -1,0 +1,3 @@
+pub use Rattle.plain_resolver.specs.Passed
+pub mod Ends
+pub mod Asked

@@ -1,0 +1,3 @@
+pub mod NamesInOrder
+pub mod OrderedCuts
+mod RecordsFound

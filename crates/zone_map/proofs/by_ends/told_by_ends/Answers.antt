@@ -1,0 +1,13 @@
+use Rattle.std.proofs.Common.{List, ◌≡◌, subst}
+use Rattle.std.specs.Prelude.{◌⊎◌}
+use Rattle.net_model.specs.declared.config.Config.{Config}
+use Rattle.run_endings.specs.Endings.{no_memory}
+use Rattle.config_load.specs.declared.loaded.RowFiles.{RowFiles}
+use Rattle.zone_map.specs.Asked.{ToldByEnds}
+use Rattle.zone_map.specs.EndsWords.{lines_by}
+use Rattle.zone_map.proofs.by_ends.told_by_ends.Goals as goal
+
+pub returns-in-Ok : goal.returns-in-Ok
+returns-in-Ok c =
+    subst (λ (config : Config). ToldByEnds config (lines_by c.args.word (record { config = config; rows = c.args.all.now.rows })) c.told_at.result ⊎ (c.told_at.result ≡ no_memory)) c.in-Ok.ensures
+    (subst (λ (rows : List RowFiles). ToldByEnds c.in-Ok.hosts (lines_by c.args.word (record { config = c.in-Ok.hosts; rows = rows })) c.told_at.result ⊎ (c.told_at.result ≡ no_memory)) c.items.ensures c.told_at.ensures)

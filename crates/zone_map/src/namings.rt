@@ -1,0 +1,184 @@
+//! The name servers that records name at origins and at zone cuts.
+
+ghost use Rattle.std.specs.Prelude.{◌≡◌, ◌++◌, ◌∷◌, [], List as Items, false, if◌then◌else◌, IfOk, OnOk};
+ghost use Rattle.std.specs.List.{flat_map};
+ghost use Rattle.std.specs.Option.{option_map};
+ghost use Rattle.dns_data.specs.Name.{Labels, name_eq};
+ghost use Rattle.net_model.specs.Order.{in_order};
+ghost use Rattle.zone_cuts.specs.Cuts.{ns_target, server_named_by};
+ghost use Rattle.zone_map.specs.Lines.{place_columns};
+ghost use Rattle.zone_map.specs.Namings.{KnowsNamings, named_in};
+ghost use Rattle.zone_map.specs.Servers.{naming_of, namings_at, row_namings};
+ghost use Rattle.zone_map.specs.declared.namings.Naming.{Naming as NamingValue};
+
+use crate::lines::put_place;
+use config_load::RowFiles;
+use dns_data::{List, Name, NoMemory, Octets, Rdata, Rr};
+use std::alloc::Global;
+use std::collections::BTreeMap;
+use zone_cuts::has_servers;
+use zone_lookup::Hosts;
+use zone_tree::Tree;
+
+/// An NS record at an origin or at a zone cut: the name server that it names, its owner, whether that is the origin, and the
+/// columns of its place.
+#[derive(Debug, Drop)]
+pub(crate) struct Naming {
+    pub server: Name,
+    pub owner: Name,
+    pub at_origin: bool,
+    pub place: List<Octets>,
+}
+
+/// What names each name server, in the order in which it was read; and the names of the name servers.
+#[derive(Drop)]
+pub(crate) struct Namings {
+    pub named: BTreeMap<Name, List<Naming>>,
+    pub names: List<Name>,
+}
+
+/// What the records of all rows' zones name.
+pub(crate) fn namings_of(
+    alloc: Global,
+    hosts: &Hosts<'_>,
+    rows: &[RowFiles],
+) -> Result<Namings, NoMemory>
+    ensures { IfOk result (KnowsNamings (flat_map (row_namings hosts.now) rows.now)) }
+{
+    let mut told = Namings {
+        named: BTreeMap::new(alloc),
+        names: List::new(alloc),
+    };
+    for row in rows {
+        put_row(alloc, &mut told, hosts, row)?;
+    }
+    Ok(told)
+}
+
+/// Puts what the records of a row's zone name behind the others.
+fn put_row(
+    alloc: Global,
+    told: &mut Namings,
+    hosts: &Hosts<'_>,
+    row: &RowFiles,
+) -> Result<(), NoMemory>
+    ensures { (before : Items NamingValue) → KnowsNamings before told.old → OnOk result (KnowsNamings (before ++ row_namings hosts.now row.now) told.new) }
+{
+    match hosts.held_zone(&row.server, &row.origin) {
+        Some(tree) => put_records(alloc, told, row, tree, tree.zone().rrs.items()),
+        None => Ok(()),
+    }
+}
+
+/// Puts what records of a row's zone name behind the others.
+fn put_records(
+    alloc: Global,
+    told: &mut Namings,
+    row: &RowFiles,
+    tree: &Tree<'_>,
+    rrs: &[Rr],
+) -> Result<(), NoMemory>
+    ensures { (before : Items NamingValue) → KnowsNamings before told.old → OnOk result (KnowsNamings (before ++ flat_map (namings_at row.now tree.now.zone) rrs.now) told.new) }
+{
+    for rr in rrs {
+        put_record(alloc, told, row, tree, rr)?;
+    }
+    Ok(())
+}
+
+/// Puts what a record of a row's zone names behind the others.
+fn put_record(
+    alloc: Global,
+    told: &mut Namings,
+    row: &RowFiles,
+    tree: &Tree<'_>,
+    rr: &Rr,
+) -> Result<(), NoMemory>
+    ensures { (before : Items NamingValue) → KnowsNamings before told.old → OnOk result (KnowsNamings (before ++ namings_at row.now tree.now.zone rr.now) told.new) }
+{
+    match server_named_by(tree, rr) {
+        Some(server) => {
+            let naming = naming_of(alloc, row, tree, rr, server)?;
+            put_naming(alloc, told, naming)
+        }
+        None => Ok(()),
+    }
+}
+
+/// The name server that a record names, if it is an NS record of the origin or of a zone cut.
+fn server_named_by<'r>(tree: &Tree<'_>, rr: &'r Rr) -> Option<&'r Name>
+    ensures { option_map (λ server. server.now) result ≡ server_named_by tree.now.zone rr.now }
+{
+    match ns_target(rr) {
+        Some(server) if has_servers(tree, &rr.owner) => Some(server),
+        _ => None,
+    }
+}
+
+/// The name server that a record's data name.
+fn ns_target(rr: &Rr) -> Option<&Name>
+    ensures { option_map (λ server. server.now) result ≡ ns_target rr.now.rdata }
+{
+    match &rr.rdata {
+        Rdata::Ns(target) => Some(target),
+        _ => None,
+    }
+}
+
+/// What a record names.
+fn naming_of(
+    alloc: Global,
+    row: &RowFiles,
+    tree: &Tree<'_>,
+    rr: &Rr,
+    server: &Name,
+) -> Result<Naming, NoMemory>
+    ensures { IfOk result (λ naming. naming ≡ naming_of row.now tree.now.zone rr.now server.now) }
+{
+    let mut place = List::new(alloc);
+    put_place(alloc, &mut place, row, Some(rr))?;
+    Ok(Naming {
+        server: server.copy(alloc)?,
+        owner: rr.owner.copy(alloc)?,
+        at_origin: rr.owner == tree.zone().origin,
+        place,
+    })
+}
+
+/// Puts what a record names behind the others.
+fn put_naming(alloc: Global, told: &mut Namings, naming: Naming) -> Result<(), NoMemory>
+    ensures { (before : Items NamingValue) → KnowsNamings before told.old → OnOk result (KnowsNamings (before ++ naming ∷ []) told.new) }
+{
+    told.names.push(naming.server.copy(alloc)?)?;
+    list_naming(alloc, &mut told.named, naming)
+}
+
+/// Lists what a record names behind what others name of its name server.
+fn list_naming(
+    alloc: Global,
+    named: &mut BTreeMap<Name, List<Naming>>,
+    naming: Naming,
+) -> Result<(), NoMemory>
+    ensures { OnOk result ((name : Labels) → named_in named.new name ≡ named_in named.old name ++ (if name_eq naming.server name then naming ∷ [] else [])) }
+{
+    let server = naming.server.copy(alloc)?;
+    let mut listed = take_listed(alloc, named, &server);
+    listed.push(naming)?;
+    named.insert(server, listed)?;
+    Ok(())
+}
+
+/// Takes out what names the name server.
+fn take_listed(
+    alloc: Global,
+    named: &mut BTreeMap<Name, List<Naming>>,
+    server: &Name,
+) -> List<Naming>
+    ensures taken { result ≡ named_in named.old server.now }
+    ensures others { (name : Labels) → name_eq server.now name ≡ false → named_in named.new name ≡ named_in named.old name }
+{
+    match named.remove(server) {
+        Some(listed) => listed,
+        None => List::new(alloc),
+    }
+}
