@@ -1,0 +1,20 @@
+pub mod Lists
+pub mod LocalNames
+pub mod ZonesAlike
+pub mod LookupsAlike
+pub mod Targets
+pub mod FoundAlike
+pub mod StepsAlike
+pub mod QueriesAlike
+pub mod LearntAlike
+pub mod NamesAlike
+pub mod ClassesAlike
+pub mod ShownAlike
+pub mod ReachedAlike
+pub mod Fronts
+pub mod WithPrefixes
+pub mod MetByEach
+pub mod WholePart
+pub mod Tested
+pub mod Words
+mod Worked

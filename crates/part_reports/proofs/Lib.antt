@@ -1,0 +1,14 @@
+pub mod LocalClasses
+pub mod ShownByParts
+pub mod PassedByParts
+pub mod EntriesAlike
+pub mod GatheredEntries
+pub mod NamesInOrder
+pub mod Counts
+pub mod Sizes
+pub mod WholeReport
+pub mod BoundsOnce
+pub mod ByBounds
+pub mod OwnHeld
+mod Worked
+pub mod ClassedReport
