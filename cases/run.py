@@ -190,6 +190,19 @@ def rechecked(name):
     yield case
 
 
+def mapped(name):
+    """What groot-map says of an example: the words behind it, what it prints and its status."""
+    folder = os.path.join("examples", name)
+    if not os.path.exists(os.path.join(TOP, folder, "map")):
+        return
+    case = Case(f"{folder} mapped")
+    case.folder = os.path.join(TOP, folder)
+    case.program, case.words = "groot_map", contents(folder, "map").decode().splitlines()
+    case.want("out", contents(folder, "map-out"))
+    case.want("status", int(contents(folder, "map-status")))
+    yield case
+
+
 def all_cases():
     for name in sorted(os.listdir(HERE)):
         if name.endswith(".cases"):
@@ -198,6 +211,7 @@ def all_cases():
         if os.path.isdir(os.path.join(TOP, "examples", name)):
             yield example(name)
             yield from rechecked(name)
+            yield from mapped(name)
 
 
 def is_asked_for(case, words):

@@ -1,4 +1,4 @@
-# Completion of groot, groot-map, groot-metadata, groot-gate and groot-changed in bash.
+# Completion of groot, groot-large, groot-map, groot-metadata, groot-gate and groot-changed in bash.
 
 # The options of a command.
 _groot_options() {
@@ -45,7 +45,7 @@ _groot() {
 }
 
 _groot_metadata_options="--server --by-ns --root --also --zone --zones --catalog --key --primary --top --view --leave-out --flatten \
---published --above --records --output --help"
+--published --above --records --output --version --help"
 
 _groot_metadata() {
     local word=${COMP_WORDS[COMP_CWORD]} before=${COMP_WORDS[COMP_CWORD - 1]}
@@ -57,18 +57,18 @@ _groot_metadata() {
     esac
 }
 
-_groot_gate_options="--old --old-targets --unasked --into --classes --rewrites --workers --without-map --help"
+_groot_gate_options="--old --old-targets --old-delegations --old-copies --old-servers --unasked --into --classes --rewrites --workers --without-map --version --help"
 
 _groot_gate() {
     local word=${COMP_WORDS[COMP_CWORD]} before=${COMP_WORDS[COMP_CWORD - 1]} place meta=
     COMPREPLY=()
     case $before in
         --unasked | --classes | --rewrites | --workers) return ;;
-        --old | --old-targets | --into) _groot_files "$word" ; return ;;
+        --old | --old-targets | --old-delegations | --old-copies | --old-servers | --into) _groot_files "$word" ; return ;;
     esac
     for ((place = 1; place < COMP_CWORD; place++)); do
         case ${COMP_WORDS[place]} in
-            --old | --old-targets | --into | --unasked | --classes | --rewrites | --workers) ((place++)) ;;
+            --old | --old-targets | --old-delegations | --old-copies | --old-servers | --into | --unasked | --classes | --rewrites | --workers) ((place++)) ;;
             --*) ;;
             *) meta=yes ;;
         esac
@@ -89,7 +89,7 @@ _groot_changed() {
     if [[ $before == --since ]]; then
         mapfile -t COMPREPLY < <(compgen -W "$(git for-each-ref --format='%(refname:short)' 2>/dev/null)" -- "$word")
     elif [[ $word == -* ]]; then
-        mapfile -t COMPREPLY < <(compgen -W "--since --names --help" -- "$word")
+        mapfile -t COMPREPLY < <(compgen -W "--since --names --version --help" -- "$word")
     else
         _groot_files "$word"
     fi
@@ -99,12 +99,12 @@ _groot_map() {
     local word=${COMP_WORDS[COMP_CWORD]}
     COMPREPLY=()
     case $COMP_CWORD in
-        1) mapfile -t COMPREPLY < <(compgen -W "records reached targets" -- "$word") ;;
+        1) mapfile -t COMPREPLY < <(compgen -W "records reached targets delegations copies servers" -- "$word") ;;
         2) _groot_files "$word" ;;
     esac
 }
 
-complete -F _groot groot
+complete -F _groot groot groot-large
 complete -F _groot_map groot-map
 complete -F _groot_metadata groot-metadata
 complete -F _groot_gate groot-gate

@@ -19,7 +19,7 @@ def result($cause): .kind as $kind | {
 def most: 5000;
 # The results that a log has: if there are too many, errors come before warnings, and these before notes.
 def chosen: if length > most then sort_by(.level | {error: 0, warning: 1, note: 2}[.])[:most] else . end;
-# The log of a report with its causes.
+# The log of a report with its causes; with --arg version TEXT it says which groot made it.
 def log($causes): ([$causes[] | . as $cause | .places[] | result($cause)] | chosen) as $results | {
   "$schema": "https://docs.oasis-open.org/sarif/sarif/v2.1.0/errata01/os/schemas/sarif-schema-2.1.0.json", version: "2.1.0",
-  runs: [{tool: {driver: {name: "groot", rules: (kinds | keys | map(rule))}}, results: $results}]};
+  runs: [{tool: {driver: ({name: "groot", rules: (kinds | keys | map(rule))} + ($ARGS.named.version | if . then {version: .} else {} end))}, results: $results}]};

@@ -1,6 +1,6 @@
 # What the views share: the kinds in words, the causes behind entries, their places and walks, and how text is escaped.
 # `$records` is what `by_place` makes of a list of records; without one no file and line is known. `$given` has the lists of
-# groot-map by their words: records, reached and targets, each as text or absent; and in `lines` where the lines of written-out
+# groot-map by their words: records, reached, targets, delegations, copies and servers, each as text or absent; and in `lines` where the lines of written-out
 # files come from.
 
 # Of each kind: what goes wrong, what mends it, and how grave it is.
@@ -28,7 +28,13 @@ def kinds: {
   "target-without-address": {level: "error", what: "a record leads to a name that has no address",
     mend: "give the name an address, or let the record lead to another one"},
   "unreached-row": {level: "warning", what: "no query reaches a row of the metadata, so its file mostly goes unchecked",
-    mend: "correct the server's name, or the delegation that should lead to it"}};
+    mend: "correct the server's name, or the delegation that should lead to it"},
+  "dead-name-server": {level: "error", what: "NS records name a server that has no address",
+    mend: "give its name an address, or take it out of the NS records"},
+  "copy-differs": {level: "error", what: "a server holds another copy of a zone than the first row of it",
+    mend: "let it transfer the zone, or publish one file on both; delete a copy that nobody needs"},
+  "forgotten-row": {level: "warning", what: "NS records name a server of which the metadata have no row, so it goes unchecked",
+    mend: "give it rows in the metadata, or take it out of the NS records"}};
 
 # The entries of a report, numbered from 1 as `groot recheck` counts them; an error if the input is no report.
 def entries: [.faults? | arrays | to_entries | map(.value + {entry: (.key + 1)})][0] // error("this is no report of groot check");
@@ -250,9 +256,37 @@ def row_causes($given): runs($given) as $runs | [$given.reached | rows] | group_
         sites: ([{server, zone, file, line}] | sites(.[0].zone))})}
   | .listed = listing;
 
+# The kind of a word that counts in the lists of delegations, copies and servers.
+def unmet_kind: {lame: "lame-delegation", differs: "delegation-differs", "no-glue": "missing-glue", "glue-differs": "glue-differs",
+  dead: "dead-name-server", behind: "copy-differs", ahead: "copy-differs", forgotten: "copy-differs", apart: "copy-differs",
+  "no-row": "forgotten-row"}[.];
+# How a copy stands to the first one, from a line of the list of copies.
+def copy_words: {forgotten: "other records, with the same serial \(.[4])", behind: "behind: serial \(.[4]), not \(.[5])",
+  ahead: "ahead: serial \(.[4]), not \(.[5])", apart: "other records: serial \(.[4]), not \(.[5])"}[.[0]];
+# The server, zone and owner of the records at which the lines of the list of servers are, under "file:line".
+def named_at($given): ([$given.servers | rows | select(.[0] | unmet_kind) | {key: "\(.[4]):\(.[5])", value: true}] | from_entries) as $wanted
+  | if $wanted == {} then {} else [$given.records | rows | "\(.[4]):\(.[5])" as $at | select($wanted[$at]) | {key: $at, value: .[:3]}] | from_entries end;
+# The lines that count of what no query from the top servers meets, each with its kind and what those of one cause share.
+def unmet_lines($given): named_at($given) as $named | ([$given.reached | rows | {key: .[1], value: .[4]}] | from_entries) as $files
+  | ($given.delegations | rows | (.[0] | unmet_kind | values) as $kind | {kind: $kind, server: .[1], zone: .[2], file: .[5], line: (.[6] | tonumber),
+      shared: (if $kind == "dead-name-server" then .[4:5] else .[3:5] end), subject: "\(.[3]) NS \(.[4])"}),
+    ($given.copies | rows | (.[0] | unmet_kind | values) as $kind | {kind: $kind, server: .[2], zone: .[3], file: $files[.[1]], line: 1,
+      shared: .[2:3], subject: .[3], types: [copy_words]}),
+    ($given.servers | rows | (.[0] | unmet_kind | values) as $kind | ($named["\(.[4]):\(.[5])"] // [.[1], ".", "."]) as $record
+      | {kind: $kind, server: $record[0], zone: $record[1], file: .[4], line: (.[5] | tonumber), shared: .[1:2], subject: "\($record[2]) NS \(.[1])"});
+# The causes that these lines show.
+def unmet_causes($given): runs($given) as $runs | "no query from the top servers shows it" as $asked
+  | [unmet_lines($given) | traced($runs)] | group_by([.kind, .shared])[] | .[0] as $first | $first.kind as $kind
+  | ($first | {zone, server}) + {kinds: [$kind], level: kinds[$kind].level, zones: map(.zone), headline: kinds[$kind].what, mend: kinds[$kind].mend,
+      asked: $asked, walks: [], is_unmet: true, faults: length, places: (group_by([.zone, .subject]) | map(.[0] as $one | {
+        kind: $kind, subject: $one.subject, level: kinds[$kind].level, zone: $one.zone, first: {asked: $asked, walks: []},
+        mark: (["unmet", $kind, $one.zone, $one.subject, $one.shared] | tojson), locations: (map({server, zone, file, line}) | distinct),
+        types: ($one.types // []), sites: sites($one.zone)}))}
+  | .listed = listing;
+
 # All causes by zone and server; those of several zones come first.
 def causes($given): [(fault_causes($given) | group_by(.lag | if . then [.behind.server, .ahead.server] else . end)[] | one_lag),
-    target_causes($given), row_causes($given)]
+    target_causes($given), row_causes($given), unmet_causes($given)]
   | map(.section = (.zones | unique | if length > 1 then "\(length) zones" else "zone \(.[0])" end)
     | .order = (.zones | unique | if length > 1 then [-length] else [0, (.[0] | name_order)] end))
   | sort_by(.order, .server, .entry // infinite);
@@ -271,5 +305,6 @@ def summary($causes): . as $report
      (.known // 0 | select(. > 0) | "\(.) known"), (.gone // 0 | select(. > 0) | "known and gone: \(.)"),
      (["target-without-address", "target without an address", "targets without an address"],
       ["unreached-row", "row that no query reaches", "rows that no query reaches"]
-      | . as [$kind, $one, $several] | [$causes[] | select(.kinds == [$kind]) | .faults] | add // 0 | select(. > 0) | counted($one; $several))]
+      | . as [$kind, $one, $several] | [$causes[] | select(.kinds == [$kind]) | .faults] | add // 0 | select(. > 0) | counted($one; $several)),
+     ([$causes[] | select(.is_unmet) | .faults] | add // 0 | select(. > 0) | counted("finding"; "findings") + " that no query shows")]
   | "\(join("; ")) (\($size[0]))";

@@ -27,10 +27,14 @@ TOP = os.path.dirname(HERE)
 Json = Dict[str, Any]
 
 CASES = os.path.join(HERE, "cases")
-KINDS = ["answers-differ", "blackhole", "cyclic-dependency", "delegation-differs", "glue-differs", "lame-delegation", "missing-glue",
-         "no-address", "overlong", "rewrite-limit", "target-without-address", "unreached-row"]
+KINDS = ["answers-differ", "blackhole", "copy-differs", "cyclic-dependency", "dead-name-server", "delegation-differs",
+         "forgotten-row", "glue-differs", "lame-delegation", "missing-glue", "no-address", "overlong", "rewrite-limit",
+         "target-without-address", "unreached-row"]
 ALL = ["text", "html", "sarif", "junit"]
-LISTS = ["records", "targets", "reached", "lines"]
+LISTS = ["records", "targets", "reached", "lines", "delegations", "copies", "servers"]
+WORDS = {"lame": "lame-delegation", "differs": "delegation-differs", "no-glue": "missing-glue", "glue-differs": "glue-differs",
+         "dead": "dead-name-server", "behind": "copy-differs", "ahead": "copy-differs", "forgotten": "copy-differs", "apart": "copy-differs",
+         "no-row": "forgotten-row"}
 OBEYED = re.compile("[\x00-\x1f\x7f-\x9f\u061c\u200b-\u200f\u2028-\u202e\u2060-\u2069\ufeff\ufffe\uffff]")
 DOT_TEXT = r'"(?:[^"\\]|\\.)*"'
 DOT_LINE = re.compile(rf"digraph groot {{|  rankdir=LR;|  {DOT_TEXT}( -> {DOT_TEXT})? \[label={DOT_TEXT}(, [a-z]+=[a-z]+)*\];|}}")
@@ -262,7 +266,8 @@ def kinds_of(report: Json, folder: str) -> Set[str]:
     lists = {given: contents(folder, f"{given}.tsv") for given in LISTS if os.path.exists(os.path.join(folder, f"{given}.tsv"))}
     return ({fault["kind"] for fault in report["faults"]}
             | ({"target-without-address"} if lists.get("targets") else set())
-            | ({"unreached-row"} if "unreached\t" in lists.get("reached", "") else set()))
+            | ({"unreached-row"} if "unreached\t" in lists.get("reached", "") else set())
+            | {WORDS[line.partition("\t")[0]] for given in LISTS[4:] for line in lists.get(given, "").splitlines() if line.partition("\t")[0] in WORDS})
 
 
 def faults_of_all(folder: str) -> Iterator[str]:
@@ -319,7 +324,7 @@ def refusals() -> Iterator[str]:
         for text in ('{"faults":1}', "[]"):
             with open(os.path.join(folder, "report.json"), "w", encoding="utf-8") as file:
                 file.write(text)
-            for name in ("text", "html", "dot", "sarif", "junit", "counts", "all"):
+            for name in ("text", "html", "dot", "sarif", "junit", "counts", "prom", "all"):
                 view.cache_clear()
                 status, out, error = view(name, folder)
                 if status == 0 or out or "this is no report of groot check" not in error:

@@ -3,25 +3,28 @@ import argparse
 from typing import Dict, Iterator, List, NamedTuple, NoReturn, Optional, Sequence, Tuple
 
 from server_zones.names import NotAName, canonical
+from server_zones.version import version
 
 from .children import Ended
 from .terminal import put
 
-USAGE = """groot-gate [--old REPORT] [--old-targets LIST] [--unasked SERVER] [--into FOLDER]
+USAGE = """groot-gate [--old REPORT] [--old-targets LIST] [--old-delegations LIST] [--old-copies LIST] [--old-servers LIST]
+                  [--unasked SERVER] [--into FOLDER]
                   [--classes N] [--rewrites K] [--workers N] [--without-map] META [OPTION OF groot-metadata ..]"""
-VALUED = ("--old", "--old-targets", "--unasked", "--into", "--classes", "--rewrites", "--workers")
-FLAGS = ("--without-map", "--help", "-h")
+LISTS = ("targets", "delegations", "copies", "servers")
+VALUED = ("--old", *(f"--old-{word}" for word in LISTS), "--unasked", "--into", "--classes", "--rewrites", "--workers")
+FLAGS = ("--without-map", "--version", "--help", "-h")
 MOST = {"classes": 1_000_000, "rewrites": 64, "workers": 64}
 REFUSED = 2
 
 
 class Words(NamedTuple):
-    """What the command line asks for. `limits` are options of groot check, `options` those of groot-metadata, among which `also`
+    """What the command line asks for. `old_lists` has the lists of groot-map that are known, by their words. `limits` are options of groot check, `options` those of groot-metadata, among which `also`
     has further names of servers, each with the first one."""
 
     meta: str
     old: Optional[str]
-    old_targets: Optional[str]
+    old_lists: Dict[str, str]
     unasked: List[str]
     into: str
     limits: List[str]
@@ -39,11 +42,14 @@ class Parser(argparse.ArgumentParser):
 
 
 def words(line: Sequence[str]) -> Words:
-    """The words of the command line. Asked for help, it prints that and ends the script."""
+    """The words of the command line. Asked for help or the version, it prints that and ends the script."""
     own, options = sorted_out(line)
     parser = parser_of()
     if "--help" in own or "-h" in own:
         put(parser.format_help().encode())
+        raise SystemExit(0)
+    if "--version" in own:
+        put(f"groot-gate {version()}\n".encode())
         raise SystemExit(0)
     found = parser.parse_args(own)
     try:
@@ -52,7 +58,8 @@ def words(line: Sequence[str]) -> Words:
     except NotAName as fault:
         raise Ended(REFUSED, f"{fault}: not a name, and --unasked and --also want one") from None
     limits = [word for name, most in MOST.items() for word in limit(name, getattr(found, name), most)]
-    return Words(found.meta, found.old, found.old_targets, unasked, found.into, limits, found.without_map, options, also)
+    old_lists = {word: getattr(found, f"old_{word}") for word in LISTS if getattr(found, f"old_{word}")}
+    return Words(found.meta, found.old, old_lists, unasked, found.into, limits, found.without_map, options, also)
 
 
 def sorted_out(line: Sequence[str]) -> Tuple[List[str], List[str]]:
@@ -98,9 +105,10 @@ def parser_of() -> Parser:
     """The parser of the gate's own words."""
     parser = Parser(prog="groot-gate", usage=USAGE, allow_abbrev=False, add_help=False, description=(
         "Checks a configuration in a pipeline: metadata, rows that no query reaches, targets without an address, the report, "
-        "and what is new in it. Options of groot-metadata behind META make META first."))
+        "what no query meets, and what is new in it. Options of groot-metadata behind META make META first."))
     parser.add_argument("--old", metavar="REPORT", help="a report whose faults are known; without it, all faults are new")
-    parser.add_argument("--old-targets", metavar="LIST", help="a list of groot-map targets whose lines are known")
+    for word in LISTS:
+        parser.add_argument(f"--old-{word}", metavar="LIST", help=f"a list of groot-map {word} whose lines are known")
     parser.add_argument("--unasked", metavar="SERVER", action="append", default=[], help=(
         "a server, as a hidden primary, whose rows no query needs to reach"))
     parser.add_argument("--into", metavar="FOLDER", default="groot-report", help="where the files go (groot-report)")
@@ -108,7 +116,8 @@ def parser_of() -> Parser:
     parser.add_argument("--rewrites", metavar="K", help="how many rewrites a query may use (12)")
     parser.add_argument("--workers", metavar="N", help="how many threads judge (4)")
     parser.add_argument("--without-map", action="store_true", help=(
-        "do without groot-map: no rows, no targets, and no file and line of a fault"))
+        "do without groot-map: none of its lists, and no file and line of a fault"))
+    parser.add_argument("--version", action="store_true", help="print the version")
     parser.add_argument("--help", "-h", action="store_true", help="print this text")
     parser.add_argument("meta", metavar="META", help="the metadata file")
     return parser

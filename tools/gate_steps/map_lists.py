@@ -1,18 +1,22 @@
-"""The lists of groot-map in a pipeline: records, rows that a query reaches, and targets without an address."""
+"""The lists of groot-map in a pipeline: how they are run and read, and which lines are known."""
 import contextlib
 import os
 import re
 import tempfile
 from typing import Dict, IO, Iterable, Iterator, List, NamedTuple, Sequence, Set, Tuple
 
+from server_zones.line_map import escaped, unescaped
+
+from . import unmet
 from .children import Ended, how_it_ended, run
 from .terminal import pass_on
 
 PROGRAM = "groot-map"
-WORDS = ("records", "reached", "targets")
-FILE = 4  # the column with the name of a file
-COLUMNS = {"records": 7, "reached": 5, "targets": 10}
-KNOWN_BY = (0, 1, 2, 3, 6)  # server, zone, owner, type, data: not the file and line, nor how the walks end
+WORDS = ("records", "reached", "targets", "delegations", "copies", "servers")
+COLUMNS = {"records": 7, "reached": 5, "targets": 10, "delegations": 7, "copies": 6, "servers": 6}
+FILES = {"records": 4, "reached": 4, "targets": 4, "delegations": 5, "servers": 4}  # the columns with names of files
+# the columns by which a line is known: of a target server, zone, owner, type and data, not the file and line, nor how the walks end
+KNOWN_BY: Dict[str, Tuple[int, ...]] = {"targets": (0, 1, 2, 3, 6), **unmet.KNOWN_BY}
 PLACE = re.compile(r"(.+):([0-9]+): (\S+)")
 LINES = ".lines"
 FAILED = 8
@@ -34,16 +38,6 @@ def missing_words() -> List[str]:
     return [word for word in WORDS if word not in known]
 
 
-def escaped(name: str) -> bytes:
-    """The name of a file as a list has it."""
-    return os.fsencode(name).replace(b"\\", b"\\\\").replace(b"\t", b"\\t").replace(b"\n", b"\\n")
-
-
-def unescaped(name: bytes) -> bytes:
-    """The name of a file that a list has."""
-    return name.replace(b"\\\\", b"\\\0").replace(b"\\t", b"\t").replace(b"\\n", b"\n").replace(b"\\\0", b"\\")
-
-
 def names_from(folder: str) -> Names:
     """Names of files from a folder on."""
     return Names(escaped(folder.rstrip("/") + "/"), set())
@@ -55,8 +49,9 @@ def rows_of(file: Iterable[bytes], word: str, names: Names) -> Iterator[List[byt
         columns = line.rstrip(b"\n").split(b"\t")
         if len(columns) != COLUMNS[word]:
             raise Ended(FAILED, f"{PROGRAM} {word}: a line has {len(columns)} columns, not {COLUMNS[word]}; install groot and groot-map of one version")
-        names.flat.add(columns[FILE])
-        columns[FILE] = columns[FILE].removeprefix(names.top)
+        if word in FILES:
+            names.flat.add(columns[FILES[word]])
+            columns[FILES[word]] = columns[FILES[word]].removeprefix(names.top)
         yield columns
 
 
@@ -78,29 +73,29 @@ def mark_unasked(rows: Iterable[List[bytes]], unasked: List[str], also: Dict[str
     return marked, sum(row[0] == b"unreached" for row in marked)
 
 
-def new_targets(rows: Iterable[List[bytes]], known: str) -> List[List[bytes]]:
-    """The lines of a list of targets that an older list doesn't have."""
+def new_lines(word: str, rows: Iterable[List[bytes]], known: str) -> List[List[bytes]]:
+    """The lines of a list that an older list doesn't have."""
     with open(known, "rb") as file:
         older = [line.rstrip(b"\n").split(b"\t") for line in file]
-    if any(len(row) != COLUMNS["targets"] for row in older):
-        raise Ended(FAILED, f"{known}: it is no list of groot-map targets; give the targets.tsv of an earlier run")
-    marks = {mark(row) for row in older}
-    return [row for row in rows if mark(row) not in marks]
+    if any(len(row) != COLUMNS[word] for row in older):
+        raise Ended(FAILED, f"{known}: it is no list of groot-map {word}; give the {word}.tsv of an earlier run")
+    marks = {mark(word, row) for row in older}
+    return [row for row in rows if mark(word, row) not in marks]
 
 
-def mark(row: List[bytes]) -> Tuple[bytes, ...]:
-    """What tells the lines of two lists of targets apart."""
-    return tuple(row[place] for place in KNOWN_BY)
+def mark(word: str, row: List[bytes]) -> Tuple[bytes, ...]:
+    """What tells the lines of two lists apart."""
+    return tuple(row[place] for place in KNOWN_BY[word])
 
 
 def written_out(names: Names) -> Iterator[List[bytes]]:
     """For each plain text that stands for an operator's file, the lines of its map, each with the name of the text before it."""
     for flat in sorted(names.flat):
-        path = unescaped(flat) + LINES.encode()
+        path = unescaped(flat) + LINES
         if os.path.isfile(path):
             with open(path, "rb") as file:
                 if file.readline() != FIRST_LINE:
-                    raise Ended(FAILED, f"{os.fsdecode(path)}: it isn't a map of lines that this groot-gate knows; make the metadata anew")
+                    raise Ended(FAILED, f"{path}: it isn't a map of lines that this groot-gate knows; make the metadata anew")
                 for line in file:
                     *numbers, name = line.rstrip(b"\n").split(b"\t")
                     yield [flat.removeprefix(names.top), *numbers, name.removeprefix(names.top)]
@@ -115,7 +110,7 @@ def operators_line(text: str) -> str:
     for _, first, last, line, step, name in written_out(Names(b"", {escaped(file)})):
         if int(first) <= number <= int(last):
             place = int(line) + (number - int(first)) * int(step)
-            return f"{os.fsdecode(unescaped(name))}:{place}: {code} (written out as {file}:{number})"
+            return f"{unescaped(name)}:{place}: {code} (written out as {file}:{number})"
     return text
 
 

@@ -6,7 +6,9 @@ from typing import Dict, Iterable, List, NamedTuple, Set, Tuple
 from .held import NoMetadata, Server, Zone
 from .names import canonical
 from .paths import absolute
+from .version import version
 
+PROGRAM = "groot-metadata"
 CONFIGURED, PRINTED = ("bind", "nsd", "knot"), "-printed"
 ASKED = ("axfr", "pdns", "zones")
 # Kinds whose zones a tool prints, so that they need a folder.
@@ -34,7 +36,7 @@ class Wanted(NamedTuple):
 
 def words(usage: str) -> argparse.Namespace:
     """The words of the command line."""
-    parser = argparse.ArgumentParser(description=usage, allow_abbrev=False)
+    parser = argparse.ArgumentParser(prog=PROGRAM, description=usage, allow_abbrev=False)
 
     def several(option: str, metavar: str, text: str) -> None:
         parser.add_argument(option, metavar=metavar, action="append", default=[], help=text)
@@ -63,6 +65,7 @@ def words(usage: str) -> argparse.Namespace:
     parser.add_argument("--records", metavar="FILE", default="", help="for --above: the list that groot-map records printed")
     parser.add_argument("--output", metavar="META", default="", help=(
         "the metadata file; without it, the standard output, and metadata for the working folder"))
+    parser.add_argument("--version", action="version", version=f"{PROGRAM} {version()}", help="print the version")
     return parser.parse_args()
 
 

@@ -3,16 +3,19 @@
 The map of FILE is FILE.lines beside it. Its first line is HEAD; each other line is about some lines of FILE that follow one
 another, in five columns with a tab between: the first and the last of them, the operator's line of the first, how many of the
 operator's lines lie between one of them and the next (1 for lines that were copied, 0 for those that one line wrote out), and
-the operator's file, in which a tab, a line feed and a backslash are written as `groot-map records` writes them. Lines that no
+the operator's file, in which control characters and a backslash are written as `groot-map records` writes them. Lines that no
 entry is about come from no line of the operator.
 """
 import bisect
 import functools
 import os
+import re
 from typing import List, NamedTuple, Optional, Tuple
 
 END = ".lines"
 HEAD = b"groot-metadata lines 1\n"
+LETTERS = {b"\t": b"\\t", b"\n": b"\\n", b"\\": b"\\\\"}  # any other control character stands as a number of three digits
+OCTETS = {letter[1:]: octet for octet, letter in LETTERS.items()}
 
 
 class Run(NamedTuple):
@@ -63,10 +66,9 @@ def text_of(path: str) -> Optional[bytes]:
 
 def escaped(name: str) -> bytes:
     """The name of a file as a list of records has it."""
-    return os.fsencode(name).replace(b"\\", b"\\\\").replace(b"\t", b"\\t").replace(b"\n", b"\\n")
+    return re.sub(rb"[\x00-\x1f\x7f\\]", lambda found: LETTERS.get(found[0]) or b"\\%03d" % found[0][0], os.fsencode(name))
 
 
 def unescaped(name: bytes) -> str:
     """The name of a file, from how a list of records has it."""
-    parts = name.split(b"\\\\")
-    return os.fsdecode(b"\\".join(part.replace(b"\\t", b"\t").replace(b"\\n", b"\n") for part in parts))
+    return os.fsdecode(re.sub(rb"\\([0-9]{3}|.)", lambda found: OCTETS.get(found[1]) or bytes([int(found[1])]), name))
