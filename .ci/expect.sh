@@ -63,8 +63,8 @@ make_repository() {
 
 # install_programs PROGRAM: puts the programs of an install on the path: groot, and the scripts. groot-map has to be there.
 install_programs() {
-    if ! command -v groot-map >/dev/null || ! groot-map 2>&1 | grep -qw targets; then
-        echo "$what: needs groot-map with its command targets on the path (./build makes it)" >&2
+    if ! command -v groot-map >/dev/null || ! groot-map 2>&1 | grep -qw servers; then
+        echo "$what: needs groot-map with its command servers on the path (./build makes it)" >&2
         exit 2
     fi
     mkdir -p "$scratch/bin"

@@ -40,6 +40,45 @@ expect 8 "a list of targets that is none" "${gate[@]}" --old-targets ci/known.js
 said "ci/known.json: it is no list of groot-map targets"
 sed -i '/gone$/d; /lost$/d; /^;/d' $zone
 
+# 1a. What no query meets: delegations, copies and servers, each line once, and none that is known.
+# shellcheck disable=SC2317  # it is called by its name
+unmet() {
+    groot-gate --into "$scratch/unmet" "$top/examples/$1/metadata.json" "${@:2}"
+}
+has_lines() {
+    [ "$(wc -l <"$scratch/unmet/$1")" -eq "$2" ] || { fault "$1 has not $2 lines"; cat "$scratch/unmet/$1"; }
+}
+expect 1 "a name server that vanished" unmet vanished-name-server
+said "no fault; 1 finding that no query shows"
+said "shop.example. NS ns9.example., on a.nic.example."
+said "delegations: lines that count: 1; mend them, or keep delegations.tsv"
+has_lines delegations.tsv 1
+has_lines new-servers.tsv 0
+jq -e '.runs[0].results | map(.ruleId) == ["dead-name-server"]' "$scratch/unmet/report.sarif" >/dev/null || fault "SARIF has no dead-name-server"
+cp "$scratch/unmet/delegations.tsv" ci/delegations.tsv
+expect 0 "a name server that vanished, known" unmet vanished-name-server --old-delegations ci/delegations.tsv
+said "delegations: lines that count: 1, new: 0"
+expect 8 "a list of delegations that is none" unmet vanished-name-server --old-delegations ci/known.json
+said "ci/known.json: it is no list of groot-map delegations"
+expect 1 "a copy with other records" unmet hidden-primary --unasked hidden.nic.example.
+said "example.: other records, with the same serial 2026112701, on a.nic.example."
+cp "$scratch/unmet/copies.tsv" ci/copies.tsv
+sed -i 's/2026112701/2026112601/g' ci/copies.tsv
+expect 0 "a copy with other records, known with another serial" unmet hidden-primary --unasked hidden.nic.example. --old-copies ci/copies.tsv
+expect 1 "a forgotten row" unmet forgotten-row
+said "shop.example. NS b.nic.example., on a.nic.example."
+cp "$scratch/unmet/servers.tsv" ci/servers.tsv
+expect 0 "a forgotten row, known" unmet forgotten-row --old-servers=ci/servers.tsv
+expect 2 "no list of servers" unmet forgotten-row --old-servers ci/nothing.tsv
+for example in lame-delegation missing-glue glue-differs delegation-differs answers-differ; do
+    expect 1 "$example: told once" unmet $example
+    unsaid "that no query shows"
+done
+has_lines copies.tsv 1
+expect 0 "lines that the report tells, and are known there" unmet lame-delegation --old "$top/examples/lame-delegation/report.json"
+expect 1 "a target and a dead name server, told once" unmet no-address
+unsaid "that no query shows"
+
 # 2. Without groot-map, or with an older one.
 mkdir "$scratch/without" "$scratch/older"
 for program in jq groot groot-gate; do

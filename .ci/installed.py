@@ -1,11 +1,12 @@
 #!/usr/bin/env python3
-"""Tries ./install in scratch folders: installed.py PROGRAM [MAP].
+"""Tries ./install in scratch folders: installed.py PROGRAM [MAP [LARGE]].
 
 What it installs runs and reads, and a removal leaves no file, also after an install that failed on the way. No file of others is
-replaced. MAP is groot-map; without it, that on the path. With dpkg and dpkg-deb the Debian package is installed and removed in a
-scratch root; with lintian and mandoc it and the manual page are looked through; what isn't there is said. The status is 0 if all
-holds.
+replaced. MAP is groot-map; without it, that on the path. LARGE is groot-large; without it, PROGRAM stands in for it. With dpkg and dpkg-deb the Debian package is installed and removed in a
+scratch root; with lintian, mandoc, zsh and systemd-analyze it, the manual pages, the completion for zsh and the units are looked
+through; what isn't there is said. The status is 0 if all holds.
 """
+import gzip
 import os
 import pathlib
 import re
@@ -17,7 +18,7 @@ from typing import Dict, List, Optional, Sequence, Union
 
 TOP = pathlib.Path(__file__).resolve().parent.parent
 BASH = "bash"
-PROGRAMS = ("groot", "groot-map", "groot-metadata", "groot-gate", "groot-changed")
+PROGRAMS = ("groot", "groot-map", "groot-large", "groot-metadata", "groot-gate", "groot-changed")
 Word = Union[str, pathlib.Path]
 
 
@@ -26,15 +27,19 @@ def main() -> None:
     program, groot_map = sys.argv[1], sys.argv[2] if len(sys.argv) > 2 else shutil.which("groot-map")
     if not groot_map:
         sys.exit("./install: needs groot-map on the path, or as the second word (./build makes it)")
-    options = ["--program", program, "--map", groot_map]
+    options = ["--program", program, "--map", groot_map, "--large", sys.argv[3] if len(sys.argv) > 3 else program]
     with tempfile.TemporaryDirectory() as name:
         scratch = pathlib.Path(name)
         faults = plain(options, scratch / "plain") + staged(options, scratch) + of_others(options, scratch / "others")
         faults += cut_short(options, scratch / "short") + without_map(program, scratch)
         if shutil.which("mandoc"):
-            faults += wanted("mandoc finds nothing in docs/groot.1", ["mandoc", "-T", "lint", "-W", "warning", TOP / "docs/groot.1"])
+            faults += wanted("mandoc finds nothing in the manual pages", ["mandoc", "-T", "lint", "-W", "warning", *pages()])
         else:
-            print("docs/groot.1: not looked through, mandoc isn't installed")
+            print("the manual pages: not looked through, mandoc isn't installed")
+        if not shutil.which("zsh"):
+            print("the completion for zsh: its options are compared, and it isn't run, since zsh isn't installed")
+        if not shutil.which("systemd-analyze"):
+            print("the units of systemd: not looked through, systemd-analyze isn't installed (Debian: systemd)")
         if shutil.which("dpkg-deb") and shutil.which("dpkg"):
             faults += debian(options, scratch / "debian")
         else:
@@ -57,24 +62,93 @@ def wanted(what: str, command: Sequence[Word], status: int = 0, says: str = "", 
 
 def runs(prefix: pathlib.Path) -> List[str]:
     """Whether what is installed under a prefix runs and reads."""
-    helps = [fault for name in PROGRAMS[2:] for fault in wanted(f"{name} gives its help", [prefix / "bin" / name, "--help"])]
+    helps = [fault for name in PROGRAMS[3:] for fault in wanted(f"{name} gives its help", [prefix / "bin" / name, "--help"])]
     return (
         helps
         + wanted("the program gives its usage", [prefix / "bin/groot"], 2)
         + wanted("groot-map gives its usage", [prefix / "bin/groot-map"], 2)
+        + wanted("groot-large gives its usage", [prefix / "bin/groot-large"], 2)
         + wanted("bash reads the completion", [BASH, "-n", prefix / "share/bash-completion/completions/groot"])
-        + uncompleted(prefix)
-        + [f"no manual page {name}" for name in PROGRAMS
-           if not any((prefix / f"share/man/man1/{name}.1{end}").is_file() for end in ("", ".gz"))]
+        + [fault for name in PROGRAMS for fault in untold(prefix, name)]
+        + completed_in_zsh(prefix)
+        + of_the_units(prefix)
+        + [f"{name} has another version" for name in PROGRAMS[3:]
+           if output([prefix / "bin" / name, "--version"]) != f"{name} {(prefix / 'share/groot/version').read_text()}"]
     )
 
 
-def uncompleted(prefix: pathlib.Path) -> List[str]:
-    """A line for each option in the help of a script that the completion for bash doesn't know."""
-    known = (prefix / "share/bash-completion/completions/groot").read_text().split()
-    known = [word.strip('"') for word in known]
-    return [f"{name}: {option} isn't completed" for name in PROGRAMS[2:]
-            for option in sorted(set(re.findall(r"(?<![\w-])--[a-z][a-z-]*", output([prefix / "bin" / name, "--help"])))) if option not in known]
+def pages() -> List[pathlib.Path]:
+    """The manual pages of the repository."""
+    return sorted((TOP / "docs").glob("*.1"))
+
+
+def untold(prefix: pathlib.Path, name: str) -> List[str]:
+    """A line for each command and option of a program that its manual page or a completion doesn't know."""
+    page = manual(prefix, name)
+    if not page:
+        return [f"no manual page {name}"]
+    faults = []
+    bash = re.findall(r"[\w-]+", (prefix / "share/bash-completion/completions/groot").read_text())
+    zsh = re.findall(r"[\w-]+", zsh_completion(prefix).read_text())
+    for word in words_of(prefix, name):
+        if word not in bash:
+            faults.append(f"{name}: {word} isn't completed in bash")
+        if word not in zsh:
+            faults.append(f"{name}: {word} isn't completed in zsh")
+        told = rf"Fl {re.escape(word[1:])}(?![\w-])" if word.startswith("--") else rf"Cm (?:[a-z| ]*[ |])?{word}(?![\w-])"
+        if not re.search(told, page) and name != "groot-large":
+            faults.append(f"{name}.1: {word} isn't told")
+    return faults
+
+
+def words_of(prefix: pathlib.Path, name: str) -> List[str]:
+    """The commands and options of a program: of a script those of its help, of another program those of its usage line."""
+    if name in PROGRAMS[3:]:
+        text = output([prefix / "bin" / name, "--help"])
+        return sorted(set(re.findall(r"(?<![\w-])--[a-z][a-z-]*", text)))
+    usage = subprocess.run([str(prefix / "bin" / name)], stdin=subprocess.DEVNULL, capture_output=True, text=True, check=False).stderr
+    return sorted(set(re.findall(r"--[a-z]+", usage)) | set(re.findall(rf"(?:usage: {name}(?:-[a-z]+)? |\| )([a-z]+)", usage)))
+
+
+def manual(prefix: pathlib.Path, name: str) -> str:
+    """The text of an installed manual page, or "" if there is none."""
+    page = prefix / f"share/man/man1/{name}.1"
+    if page.is_file():
+        return page.read_text()
+    packed = page.with_name(page.name + ".gz")
+    return gzip.decompress(packed.read_bytes()).decode() if packed.is_file() else ""
+
+
+def zsh_completion(prefix: pathlib.Path) -> pathlib.Path:
+    """The installed completion for zsh: of a package in the folder of packages."""
+    site, vendor = (prefix / f"share/zsh/{folder}/_groot" for folder in ("site-functions", "vendor-completions"))
+    return site if site.is_file() else vendor
+
+
+def completed_in_zsh(prefix: pathlib.Path) -> List[str]:
+    """What zsh completes, as its functions are asked for it, if zsh is there."""
+    if not shutil.which("zsh"):
+        return []
+    faults = []
+    for service, line, wish in (("groot-map", "groot-map", "servers"), ("groot", "groot ask meta", "CAA"), ("groot", "groot check", "--classes"),
+                                ("groot-large", "groot-large scope", "metadata"), ("groot-gate", "groot-gate", "--published"),
+                                ("groot-metadata", "groot-metadata", "--catalog"), ("groot-changed", "groot-changed", "--since")):
+        command: List[Word] = ["zsh", "-f", TOP / ".ci/completed.zsh", zsh_completion(prefix), service, *line.split()]
+        if wish not in output(command):
+            faults.append(f"zsh: after `{line}` nothing with {wish} is completed")
+        faults += wanted(f"zsh reads the completion for `{line}`", command)
+    return faults
+
+
+def of_the_units(prefix: pathlib.Path) -> List[str]:
+    """What systemd finds in the units that are installed, if it is there: also a program that isn't where they say."""
+    if not shutil.which("systemd-analyze"):
+        return []
+    units = [str(path) for path in sorted((prefix / "share/groot/pipelines").glob("groot*.*")) if path.suffix in (".service", ".timer")]
+    faults = [] if len(units) == 3 else [f"the units of systemd are {units}"]
+    if any(str(prefix) not in pathlib.Path(unit).read_text() for unit in units if unit.endswith("groot.service")):
+        return faults  # those of a package speak of /usr, and it is below another folder here
+    return faults + [fault for unit in units for fault in wanted(f"systemd takes {unit}", ["systemd-analyze", "--man=no", "verify", unit])]
 
 
 def checks(prefix: pathlib.Path) -> List[str]:
@@ -181,7 +255,7 @@ def told(file: pathlib.Path, options: List[str]) -> List[str]:
     control = output(["dpkg-deb", "-f", file])
     faults = [] if re.search(r"^Version: [0-9.]+\+[0-9]{14}\.[0-9a-f]+$", control, re.M) else [f"the version of the package:\n{control}"]
     if shutil.which("objdump"):
-        used = re.findall(r"GLIBC_([0-9.]+)", "".join(output(["objdump", "-p", path]) for path in (options[1], options[3])))
+        used = re.findall(r"GLIBC_([0-9.]+)", "".join(output(["objdump", "-p", path]) for path in options[1::2]))
         highest = max(used, key=lambda number: [int(part) for part in number.split(".")], default="")
         if f"Depends: libc6 (>= {highest})\n" not in control and highest:
             faults.append(f"the package needs another C library than its programs, {highest}:\n{control}")

@@ -1,8 +1,8 @@
 #!/usr/bin/env python3
 """Counts the pages that people read.
 
-A page has at most so many words, and some have no sentence of more than 40 words. Links between pages lead to files and
-headings that are there. The table of docs/ARCHITECTURE.md has the crates of crates.txt, and docs/groot.1 the version of
+A page has at most so many words, CHANGELOG.md for each version, and some have no sentence of more than 40 words. Links between pages lead to files and
+headings that are there. The table of docs/ARCHITECTURE.md has the crates of crates.txt, and each manual page the version of
 CHANGELOG.md. A line names each fault, and the status is 1 if there is one.
 """
 import pathlib
@@ -26,7 +26,7 @@ ROW = re.compile(r"^\| ([\w ]*) \| \[(\w+)\]\(\.\./crates/(\w+)\) \|", re.M)
 def main():
     faults = [] if crates_told() == crates() else ["docs/ARCHITECTURE.md: its table has other crates than crates.txt, or in another order"]
     for name, most in MOST_WORDS.items():
-        number = len((TOP / name).read_text().split())
+        number = max(len(part.split()) for part in parts(name, (TOP / name).read_text()))
         if number > most:
             faults.append(f"{name}: {number} words, more than {most}")
     for name in SHORT_SENTENCES:
@@ -34,8 +34,9 @@ def main():
                    if len(it.split()) > MOST_IN_A_SENTENCE]
     for path in [*TOP.glob("*.md"), *TOP.glob("docs/*.md"), *TOP.glob("bench/*.md"), *TOP.glob("cases/*.md"), *TOP.glob("examples/*.md")]:
         faults += [f"{path.relative_to(TOP)}: no {link}" for link in links(path.read_text()) if not leads(path, link)]
-    if version("CHANGELOG.md", r"^## \[(\d[\d.]*)\]") != version("docs/groot.1", r"^This is the page of version (.*)\.$"):
-        faults.append("docs/groot.1: its version isn't that of CHANGELOG.md")
+    for page in sorted(TOP.glob("docs/*.1")):
+        if version("CHANGELOG.md", r"^## \[(\d[\d.]*)\]") != version(page, r"^This is the page of version (.*)\.$"):
+            faults.append(f"docs/{page.name}: its version isn't that of CHANGELOG.md")
     print("\n".join(faults) or "pages: as long as they may be")
     return int(bool(faults))
 
@@ -50,6 +51,11 @@ def crates():
             found.append((group, line.partition(":")[0].split()[0]))
             group = ""
     return found
+
+
+def parts(name, text):
+    """What is counted by itself of a page: of the list of changes each version, else the page."""
+    return text.split("\n## ")[1:] if name == "CHANGELOG.md" else [text]
 
 
 def crates_told():

@@ -1,5 +1,5 @@
 #!/usr/bin/env bash
-# Tries tools/gate, the pipelines that call it, and tools/changed, on repositories made of examples/own-servers:
+# Tries tools/gate, the pipelines, hooks, service and image that call it, and tools/changed, on repositories made of examples/own-servers:
 # pipelines.sh PROGRAM
 #
 # PROGRAM is the built groot; groot-map is on the path. The lines of the pipelines run as they stand, with
@@ -17,6 +17,9 @@ for tool in apt-get dpkg ln mkdir sudo; do
 done
 # shellcheck disable=SC2016  # these are the lines of a script
 printf '#!/bin/sh\ncat "${2#/}"\n' >"$scratch/runner/named-checkconf"
+# curl writes the package, whose sum the lines of the pipelines compare
+# shellcheck disable=SC2016
+printf '#!/bin/sh\nwhile [ "$1" != --output ]; do shift; done\necho package >"$2"\n' >"$scratch/runner/curl"
 chmod +x "$scratch"/runner/*
 ln -s "$(python3 -c 'import sys; print(sys.executable)')" "$scratch/bare/python3"
 command -v named-checkconf >/dev/null \
@@ -117,6 +120,7 @@ gitlab() {
 as_yaml() {
     python3 - "$top/tools/pipelines" "$1" <<'EOF'
 import pathlib
+import re
 import sys
 import yaml
 
@@ -124,14 +128,21 @@ files, lines = map(pathlib.Path, sys.argv[1:])
 github = yaml.safe_load((files / "github-actions.yml").read_text())
 gitlab = yaml.safe_load((files / "gitlab-ci.yml").read_text())
 [job] = github["jobs"].values()
-assert set(github) == {"name", True, "permissions", "jobs"} and set(job) == {"runs-on", "steps"}  # YAML 1.1 takes `on` for true
+assert set(github) == {"name", True, "permissions", "env", "jobs"} and set(job) == {"runs-on", "steps"}  # YAML 1.1 takes `on` for true
 assert all(("uses" in step) != ("run" in step) for step in job["steps"])
+assert all(re.fullmatch(r"[\w-]+(/[\w-]+)+@[0-9a-f]{40}", step["uses"]) for step in job["steps"] if "uses" in step)  # by commit
+assert set(github["env"]) == {"GROOT_DEB", "GROOT_SHA256"} and all(isinstance(value, str) for value in github["env"].values())
 assert set().union(*job["steps"]) <= {"name", "uses", "run", "if", "with", "continue-on-error"}
 assert "".join(step.get("run", "") for step in job["steps"]) == (lines / "github.sh").read_text()
 [(_, job)] = gitlab.items()
-assert set(job) == {"image", "script", "artifacts"} and set(job["artifacts"]) == {"when", "paths", "reports"}
+assert job["variables"] == github["env"]
+assert set(job) == {"image", "variables", "script", "artifacts"} and set(job["artifacts"]) == {"when", "paths", "reports"}
 assert "".join(line + "\n" for line in job["script"]) == (lines / "gitlab.sh").read_text().lstrip("\n")
 EOF
+}
+# shellcheck disable=SC2317
+jenkins() {
+    awk -v quotes="'''" 'inside && $1 == quotes { exit } inside { print } index($0, "sh " quotes) { inside = 1 }' "$top/tools/pipelines/Jenkinsfile"
 }
 # by_link: the lines of docs/PIPELINES.md for a named.conf that the runner reads.
 # shellcheck disable=SC2317
@@ -139,7 +150,7 @@ by_link() {
     awk '/^If `named.conf` can be read on the runner/ { found = 1 } found && /^```$/ { if (inside) exit; inside = 1; next } inside' \
         "$top/docs/PIPELINES.md"
 }
-for pipeline in github gitlab by_link; do
+for pipeline in github gitlab jenkins by_link; do
     "$pipeline" >"$scratch/$pipeline.sh"
 done
 if python3 -c 'import yaml' 2>/dev/null; then
@@ -147,13 +158,22 @@ if python3 -c 'import yaml' 2>/dev/null; then
 else
     echo "pipelines: PyYAML isn't there (Debian: python3-yaml), so the files of the pipelines aren't read as YAML"
 fi
-for pipeline in github gitlab by_link; do
-    run=(env PATH="$scratch/runner:$PATH" bash --noprofile --norc -e -o pipefail "$scratch/$pipeline.sh")
+if command -v groovyc >/dev/null; then
+    expect 0 "the Jenkinsfile as Groovy" groovyc -d "$scratch/groovy" "$top/tools/pipelines/Jenkinsfile"
+else
+    echo "pipelines: groovyc isn't there (Debian: groovy), so the Jenkinsfile isn't read as Groovy; its brackets are counted"
+    [ "$(tr -cd '{[(' <"$top/tools/pipelines/Jenkinsfile" | wc -c)" -eq "$(tr -cd '}])' <"$top/tools/pipelines/Jenkinsfile" | wc -c)" ] \
+        || fault "Jenkinsfile: a bracket is open"
+fi
+sum=$(echo package | sha256sum)
+for pipeline in github gitlab jenkins by_link; do
+    run=(env PATH="$scratch/runner:$PATH" RUNNER_TEMP="$scratch/runner" GROOT_DEB=https://downloads.example.com/groot.deb
+        GROOT_SHA256="${sum%% *}" bash --noprofile --norc -e -o pipefail "$scratch/$pipeline.sh")
     cp "$top/examples/own-servers/zones/example.com.zone" etc/bind/zones/
     rm -f "$scratch/runner/said"
     expect 0 "$pipeline: no fault" "${run[@]}"
     said "no fault"
-    grep -q "ci/groot.deb\|/etc/bind" "$scratch/runner/said" || fault "$pipeline prepares nothing"
+    [ "$pipeline" = jenkins ] || grep -q "dpkg --install .*groot.deb\|/etc/bind" "$scratch/runner/said" || fault "$pipeline prepares nothing"
     sed -i 's/^shop .*/shop    IN CNAME wwww/' $zone
     expect 1 "$pipeline: a new fault" "${run[@]}"
     sed -i 's/wwww/www/; $a @ IN MX 10 gone' $zone
@@ -161,6 +181,12 @@ for pipeline in github gitlab by_link; do
     said "MX to gone.example.com."
     sed -i 's/^mail .*/mail    IN A     192.0.2.256/' $zone
     expect 3 "$pipeline: a refused file" "${run[@]}"
+    if [[ $pipeline == git* ]]; then
+        rm "$scratch/runner/said"
+        expect 1 "$pipeline: another package" "${run[@]:0:4}" GROOT_SHA256="${sum//[0-9]/0}" "${run[@]:5}"
+        said "FAILED"
+        ! grep -q "dpkg" "$scratch/runner/said" || fault "$pipeline installs a package whose sum is another"
+    fi
 done
 
 # 3. The hook: what is committed counts, not what stands in the folder.
@@ -186,7 +212,116 @@ sed -i 's/^shop .*/shop    IN CNAME wwww/' $zone
 expect 0 "hook: a fault that isn't committed" "${commit[@]}"
 [ -z "$(git status --porcelain -- groot-report metadata.json)" ] || fault "the hook leaves files"
 
-# 4. The scopes of the zones that a change touches, in a repository whose folder and files have any names.
+# 4. The hook of pre-commit, in its own words: with --root, as there the configuration is one that a server printed.
+make_repository framework
+cat >"$scratch/framework.py" <<'EOF'
+import pathlib
+import subprocess
+import sys
+import yaml
+
+[hook] = yaml.safe_load(pathlib.Path(sys.argv[1]).read_text())
+assert set(hook) == {"id", "name", "description", "entry", "language", "args", "pass_filenames", "always_run", "minimum_pre_commit_version"}
+assert hook["language"] == "system" and hook["pass_filenames"] is False and hook["always_run"] is True
+sys.exit(subprocess.run([*hook["entry"].split(), *(sys.argv[2:] or hook["args"])], check=False).returncode)
+EOF
+hook=(python3 "$scratch/framework.py" "$top/.pre-commit-hooks.yaml")
+more=(--old ci/known.json metadata.json --server ns1.example.com.=bind-printed:ci/named.printed --root ns1.example.com.=.)
+if python3 -c 'import yaml' 2>/dev/null; then
+    expect 0 "pre-commit: no fault" "${hook[@]}" "${more[@]}"
+    said "no fault"
+    expect 0 "pre-commit: no other words" "${hook[@]}"
+    sed -i 's/^shop .*/shop    IN CNAME wwww/' $zone
+    expect 1 "pre-commit: a new fault" "${hook[@]}" "${more[@]}"
+else
+    echo "pipelines: PyYAML isn't there (Debian: python3-yaml), so the hook of pre-commit isn't run"
+fi
+if command -v pre-commit >/dev/null; then
+    git init -q .
+    git add .
+    expect 0 "pre-commit takes the list of hooks" pre-commit validate-manifest "$top/.pre-commit-hooks.yaml"
+else
+    echo "pipelines: pre-commit isn't there, so its own check of the list of hooks isn't run"
+fi
+
+# 5. The service, as systemd runs its lines, and its metrics.
+make_repository service
+# line_of NAME: the words of a line of the service, with the programs of this copy.
+line_of() {
+    sed -n ':a; /\\$/ { N; s/\\\n *//; ba; }; s#^'"$1"'=##p' "$top/tools/pipelines/groot.service" \
+        | sed "s#/usr/local/bin/#$scratch/bin/#; s#/usr/local/share/groot#$top#; s#/etc/bind#$repository/etc/bind#; s#/var/lib/prometheus/node-exporter#$scratch#"
+}
+read -ra start <<<"$(line_of ExecStart)"
+read -ra stop <<<"$(line_of ExecStopPost)"
+cp ci/known.json ci/known.tsv .
+if ! command -v named-checkconf >/dev/null; then
+    start=("${start[@]/=bind:*/=bind-printed:ci/named.printed}" --root ns1.example.com.=.)
+else
+    sed -i "s#/etc/bind#$repository/etc/bind#" etc/bind/named.conf
+fi
+# metrics_have LINE: the file of metrics has the line, and each line of it has the form of the collector.
+metrics_have() {
+    grep -qxE -- "$1" "$scratch/groot.prom" || { fault "the metrics have no $1"; cat "$scratch/groot.prom"; }
+    ! grep -vxE '# (HELP [a-z_]+ .*|TYPE [a-z_]+ gauge)|[a-z_]+(\{([a-z]+="([^"\\]|\\.)*",?)+\})? -?[0-9]+' "$scratch/groot.prom" \
+        || fault "the metrics have lines of another form"
+}
+command -v promtool >/dev/null \
+    || echo "pipelines: promtool isn't there (Debian: prometheus), so the metrics are compared by the form of their lines alone"
+# shellcheck disable=SC2317
+by_promtool() {
+    ! command -v promtool >/dev/null || promtool check metrics <"$scratch/groot.prom"
+}
+expect 0 "service: no fault" "${start[@]}"
+expect 0 "service: metrics of no fault" env EXIT_STATUS=0 "${stop[@]}"
+metrics_have 'groot_all_faults 0'
+metrics_have 'groot_status 0'
+expect 0 "promtool: metrics of no fault" by_promtool
+sed -i 's/^shop .*/shop    IN CNAME wwww/' $zone
+expect 1 "service: a new fault" "${start[@]}"
+expect 0 "service: metrics of a fault" env EXIT_STATUS=1 "${stop[@]}"
+metrics_have 'groot_faults\{kind="blackhole",zone="example.com."\} 1'
+metrics_have 'groot_status 1'
+metrics_have "groot_last_run_timestamp_seconds $(date +%s | cut -c1-7)[0-9]*"
+expect 0 "promtool: metrics of a fault" by_promtool
+expect 0 "service: metrics of a run without a report" env EXIT_STATUS=3 "${stop[@]}"
+metrics_have 'groot_status 3'
+! grep -q groot_faults "$scratch/groot.prom" || fault "metrics of an older report"
+expect 0 "service: metrics of a run that was killed" env EXIT_STATUS=KILL "${stop[@]}"
+metrics_have 'groot_status -1'
+echo '{}' >groot-report/report.json
+expect 5 "service: no report, though the status says so" env EXIT_STATUS=1 "${stop[@]}"
+metrics_have 'groot_status -1'
+[ "$(find "$scratch" -maxdepth 1 -name 'groot.prom*')" = "$scratch/groot.prom" ] || fault "a part of the metrics is left"
+expect 2 "service: metrics without a folder" "${stop[0]}"
+
+# 6. The image: its lines with stand-ins, and built if an engine runs here.
+make_repository image
+awk '/^RUN / { sub(/^RUN /, ""); inside = 1 } inside { print } inside && !/\\$/ { exit }' "$top/tools/pipelines/Containerfile" >"$scratch/image.sh"
+rm -f "$scratch/runner/said"
+printf '#!/bin/sh\necho "rm $*" >>"%s/runner/said"\n' "$scratch" >"$scratch/runner/rm"
+chmod +x "$scratch/runner/rm"
+expect 0 "the lines of the image" env PATH="$scratch/runner:$PATH" sh -e "$scratch/image.sh"
+for package in bind9-dnsutils bind9-utils git jq knot nsd python3 /tmp/groot.deb; do
+    grep -q "apt-get install .* $package\( \|$\)" "$scratch/runner/said" || fault "the image has no $package"
+done
+rm "$scratch/runner/rm"
+awk '/^[A-Z]+ / { print $1 } /^[^A-Z# ]/ { print "?" }' "$top/tools/pipelines/Containerfile" | tr '\n' ' ' >"$scratch/said"
+said "FROM COPY RUN WORKDIR CMD "
+engine=$(command -v podman || command -v docker)
+if [ -z "$engine" ] || ! "$engine" info >/dev/null 2>&1; then
+    echo "pipelines: no engine for containers runs here (podman, docker), so the image isn't built"
+elif ! command -v dpkg-deb >/dev/null; then
+    echo "pipelines: dpkg-deb isn't there, so the image isn't built"
+else
+    "$top/install" --deb "$scratch/groot.deb" --program "$(realpath "$scratch/bin/groot")" --map "$(realpath "$(command -v groot-map)")" >/dev/null
+    mkdir "$scratch/context"
+    mv "$scratch/groot.deb" "$scratch/context"
+    cp "$top/tools/pipelines/Containerfile" "$scratch/context"
+    expect 0 "the image is built" "$engine" build --quiet --tag groot-of-the-case --file "$scratch/context/Containerfile" "$scratch/context"
+    expect 0 "the image has groot-gate" "$engine" run --rm groot-of-the-case groot-gate --version
+fi
+
+# 7. The scopes of the zones that a change touches, in a repository whose folder and files have any names.
 make_repository 'changed & |more'
 # scopes_are COUNT: the last command printed the reports of so many scopes.
 scopes_are() {
@@ -249,5 +384,5 @@ expect 2 "changed: no word" groot-changed
 echo 'broken' >>"$odd"
 expect 3 "changed: a refused file" groot-changed metadata.json
 
-[ $wrong -ne 0 ] || echo "pipelines: the gate, the lines of two pipelines, the hook and groot-changed end as they should"
+[ $wrong -ne 0 ] || echo "pipelines: the gate, the lines of all pipelines, the hooks, the service, the image and groot-changed end as they should"
 exit $wrong

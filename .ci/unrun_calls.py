@@ -37,8 +37,9 @@ VARIANT = re.compile(r"^    ([A-Z]\w*)\s*(?:\(([^;]*?)\)|\{([^{}]*)\})?,", re.M)
 NAMED = re.compile(r"(\.\s*)?\b((?:\w+::(?:<[\w, ]*>::)?)*)(\w+)(?:::<[^()]*>)?\(|\b([A-Z]\w*)::(\w+)")
 CALLED = re.compile(r"(?:\b([A-Z]\w*)::(?:<[^()]*>::)?)?(\w*)(?:::<[^()]*>)?$")
 NO_TYPE = {"Option", "Result", "Some", "None", "Ok", "Err", "Self", "Box"}
-# `scope` has the report from the judge that a ScopeJudge wraps.
-HANDED_ON = {("ScopeJudge", "report"): ("Judge", "report")}
+# `scope` has the report from the judge that a ScopeJudge wraps; the programs say how much they take.
+HANDED_ON = {("ScopeJudge", "report"): ("Judge", "report"), (None, "read_metadata"): (None, "read_metadata_within"),
+             (None, "read_words"): (None, "read_words_of")}
 
 
 def closing(text, at, pair):
@@ -115,7 +116,8 @@ class Sources:
         for match in BLOCK.finditer(file.text):
             kind, head, end = match.group(1), match.group(2), closing(file.text, match.end() - 1, "{}")
             of_trait, _, name = (head[closing(head, 0, "<>"):] if head[0] == "<" else head).rpartition(" for ")
-            name, inside = re.search(r"\w+", name).group(), file.text[match.end():end]
+            # A trait may be of the unit type, which has no word.
+            name, inside = (re.search(r"\w+", name) or re.search(".*", name)).group(), file.text[match.end():end]
             home = (file.imports.get(name, file.crate), name)
             blocks.append((match.start(), end, home, bool(of_trait)))
             if kind in ("struct", "enum"):
