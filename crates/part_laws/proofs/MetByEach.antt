@@ -17,7 +17,8 @@ use Rattle.part_laws.specs.RecordByRecord.{LeavesAt, IsHeldOrAway, MeetsEach}
 use Rattle.part_laws.proofs.Fronts.{LongestFront, longest_front}
 use Rattle.part_laws.proofs.LocalNames.{held_or_not, local_held, above_based}
 use Rattle.part_laws.proofs.LookupsAlike.{front_with_label}
-use Rattle.part_laws.proofs.NamesAlike.{from_based, from_record_left, owner_is}
+use Rattle.net_model.proofs.JoinedNames.{owner_is}
+use Rattle.part_laws.proofs.NamesAlike.{from_based, from_record_left}
 
 -- what begins a name begins it after its last label
 longer_end : (above : Labels) (label : List ℕ) (below : Labels) → Begins (above ++ label ∷ below) above → ⊥

@@ -3,28 +3,19 @@ use Rattle.std.proofs.Common.{◌≡◌, List, [], ◌∷◌, ◌⊎◌, map, fl
 use Rattle.std.specs.Prelude.{◌↔◌}
 use Rattle.std.proofs.lemmas.List.Elements.{Contains-append_cases}
 use Rattle.dns_data.specs.Name.{Labels, is_among}
-use Rattle.dns_data.specs.declared.rdata.Rdata.{Rdata}
-use Rattle.dns_data.specs.declared.rdata.Rdata.TheVariants.{Dname}
 use Rattle.dns_data.specs.declared.rdata.Rr.{Rr}
-use Rattle.dns_data.proofs.Membership.{none_in_nil, has_first, first_or_later, from_filter, from_map, from_flat_map, flat_map_has}
+use Rattle.dns_data.proofs.Membership.{has_first, first_or_later, from_filter, from_map, from_flat_map, flat_map_has}
 use Rattle.dns_data.proofs.NameFronts.{Begins, is_prefix_tells}
 use Rattle.net_model.specs.declared.config.Config.{Config}
 use Rattle.net_model.specs.declared.config.Zone.{Zone}
 use Rattle.net_model.specs.Prefix.{prefixes}
 use Rattle.net_model.specs.Reading.{Redirection, ReadsAlong, IsNamed, zones, records, redirection_of, redirections_of, origins_and_owners, ground_of}
+use Rattle.net_model.proofs.JoinedNames.{owner_is}
 use Rattle.net_model.proofs.Naming.{from_listed}
 use Rattle.net_model.proofs.NearestZones.{origin_of_config, owner_of_config, record_of_config}
 use Rattle.net_model.proofs.Prefixes.{from_prefixes}
 use Rattle.part_laws.specs.Part.{restricted_zone, restricted, IsLocal, IsPart}
 use Rattle.part_laws.proofs.LocalNames.{local_held, above_local, above_based, start_based, owner_based, from_zone_left, record_left}
-
--- the owner of a record's redirection is the record's
-pub owner_is : (owner : Labels) (rdata : Rdata) (redirection : Redirection) → Contains (redirection_of owner rdata) redirection → redirection.owner ≡ owner
-owner_is owner (Dname target) redirection has = elim (first_or_later (record { owner = owner; target = target }) [] redirection has) [
-  | inl same ↦ ap (λ (r : Redirection). r.owner) (sym same)
-  | inr later ↦ absurd (none_in_nil redirection later)
-]
-owner_is owner other redirection has = absurd (none_in_nil redirection has)
 
 -- a base name is the root, or begins an origin or an owner
 pub from_based : (config : Config) (name : Labels) → Contains (ground_of config).names name

@@ -3,7 +3,6 @@ pub mod ShownByParts
 pub mod PassedByParts
 pub mod EntriesAlike
 pub mod GatheredEntries
-pub mod NamesInOrder
 pub mod Counts
 pub mod Sizes
 pub mod WholeReport

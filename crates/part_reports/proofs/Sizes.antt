@@ -24,7 +24,7 @@ use Rattle.part_reports.specs.Gathered.{AreParts}
 use Rattle.part_reports.specs.Owned.{IsLongestBase, IsOwnName, HasClassBelow, AreOwnNames, AnswerForAll}
 use Rattle.part_reports.specs.PartReport.{PartReport}
 use Rattle.part_reports.proofs.Counts.{one_there, counted_once, sum_same}
-use Rattle.part_reports.proofs.NamesInOrder.{order_has, order_rises}
+use Rattle.query_classes.proofs.ChildLists.{order_has, order_rises}
 
 -- of two prefixes of a name the one that begins the other and isn't shorter is the other
 same_front : (a b : Labels) → Begins a b → length b ≤ length a → a ≡ b
