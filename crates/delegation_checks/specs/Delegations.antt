@@ -1,6 +1,7 @@
 -- The kinds of faults that delegations show, and what is known of the graph in which they are looked for.
-use Rattle.std.specs.Prelude.{◌≡◌, Bool, true, false, not}
-use Rattle.dns_data.specs.Name.{Labels, is_among}
+use Rattle.std.specs.Prelude.{◌≡◌, Bool, true, false, ◌&&◌}
+use Rattle.dns_data.specs.Name.{Labels}
+use Rattle.graph_form.specs.EndFaults as ends
 use Rattle.graph_form.specs.Graph.{PlainGraph}
 use Rattle.graph_form.specs.GraphOf.{IsExactIn, IsGraphOf}
 use Rattle.net_model.specs.Step.{Setting}
@@ -19,12 +20,9 @@ is_of_delegations (Cyclic cut) = true
 is_of_delegations (NoAddress cut) = true
 is_of_delegations fault = false
 
--- the fault of an end is shown with these lists of learnt addresses: that of a name server without an address if it isn't
--- in the greatest
+-- the fault of an end is one of delegations, and is shown with these lists of learnt addresses
 abbrev pub is_shown : Deps → Fault → Bool
-is_shown deps (Lame cut) = true
-is_shown deps (NoAddress cut) = not (is_among deps.greatest cut.ns)
-is_shown deps fault = false
+is_shown deps fault = is_of_delegations fault && ends.is_shown deps fault
 
 -- the graph is that of the query in the configuration
 pub record IsGraphIn (config : Config) (setting : Setting) (query : Labels) (graph : PlainGraph) : Type 0 where

@@ -1,6 +1,7 @@
 -- Which fault a walk shows by its end: told of the place of its last rewrite, its last hop and its leaf.
-use Rattle.std.specs.Prelude.{◌-◌, Bool, true, false, List, [], ◌∷◌, length, Option, Some, None, option_map, option_and_then, slice_get, if◌then◌else◌}
-use Rattle.dns_data.specs.Name.{Labels, name_eq}
+use Rattle.std.specs.Prelude.{◌-◌, Bool, true, false, not, List, [], ◌∷◌, length, Option, Some, None, option_map, option_and_then, slice_get, if◌then◌else◌}
+use Rattle.dns_data.specs.Name.{Labels, is_among, name_eq}
+use Rattle.net_model.specs.declared.deps.Deps.{Deps}
 use Rattle.net_model.specs.declared.fault.Fault.{Fault}
 use Rattle.net_model.specs.declared.fault.Fault.TheVariants as faults
 use Rattle.net_model.specs.declared.place.Cut.{Cut}
@@ -39,6 +40,12 @@ is_of_end (faults.Limit place) = true
 is_of_end (faults.Overlong place) = true
 is_of_end (faults.Blackhole place) = true
 is_of_end fault = false
+
+-- with these lists of learnt addresses the fault of an end is shown: that of a name server without an address if it isn't in
+-- the greatest
+abbrev pub is_shown : Deps → Fault → Bool
+is_shown deps (faults.NoAddress cut) = not (is_among deps.greatest cut.ns)
+is_shown deps fault = is_of_end fault
 
 -- ---- of a walk
 

@@ -7,8 +7,8 @@ ghost use Rattle.net_model.specs.Zone.{has_address};
 ghost use Rattle.zone_cuts.specs.Cuts.{cuts_at, has_servers, is_cut, is_glued, refers};
 
 use dns_data::Name;
-use zone_lookup::has_glue_below;
-use zone_tree::{Decider, Tree, deciding};
+use zone_lookup::{Reply, has_glue_below, reply_in};
+use zone_tree::Tree;
 
 /// Whether the name is a zone cut that a query meets.
 pub fn is_cut(tree: &Tree<'_>, name: &Name) -> bool
@@ -22,8 +22,8 @@ fn is_cut_below(tree: &Tree<'_>, name: &Name) -> bool
     requires { is_prefix tree.now.zone.origin name.now ≡ true }
     ensures { result ≡ cuts_at name.now (deciding tree.now.zone name.now) }
 {
-    match deciding(tree, name) {
-        Decider::Cut(cut) => *tree.name(cut) == *name,
+    match reply_in(tree, name) {
+        Reply::Refers(tree, cut) => *tree.name(cut) == *name,
         _ => false,
     }
 }
@@ -47,8 +47,8 @@ fn is_glued_below(tree: &Tree<'_>, name: &Name) -> bool
     requires { is_prefix tree.now.zone.origin name.now ≡ true }
     ensures { result ≡ (refers (deciding tree.now.zone name.now) && has_address tree.now.zone name.now) }
 {
-    match deciding(tree, name) {
-        Decider::Cut(cut) => has_glue_below(tree, cut, name),
+    match reply_in(tree, name) {
+        Reply::Refers(tree, cut) => has_glue_below(tree, cut, name),
         _ => false,
     }
 }

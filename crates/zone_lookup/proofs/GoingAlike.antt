@@ -2,7 +2,7 @@
 use Rattle.std.proofs.Common.{◌≡◌, ℕ, Bor, sym, ap, ◌∙◌}
 use Rattle.dns_data.specs.Name.{Labels}
 use Rattle.dns_data.specs.declared.rr_type.RrType.{RrType}
-use Rattle.net_model.specs.Lookup.{ByRecords, at_name}
+use Rattle.net_model.specs.Lookup.{at_name}
 use Rattle.net_model.specs.Step.{Setting, after_lookup, next}
 use Rattle.net_model.specs.declared.walk.State.{State}
 use Rattle.zone_tree.specs.Tree.{ZoneTree, name_of}
@@ -33,14 +33,14 @@ module _ (setting : Setting) (state : State) where
       → (s t : RrType) → at_name tree.now.zone (name_of tree.now owner) s ≡ at_name tree.now.zone (name_of tree.now owner) t
       → next setting s state ≡ next setting t state
   alias_alike tree owner target so s t same =
-      replying.decided_by setting state s tree.now.zone (ByRecords (name_of tree.now owner)) so.0 so.1.1
+      replying.alias_found setting state s tree owner target so
       ∙ ap (after_lookup setting state tree.now.zone.origin) same
-      ∙ sym (replying.decided_by setting state t tree.now.zone (ByRecords (name_of tree.now owner)) so.0 so.1.1)
+      ∙ sym (replying.alias_found setting state t tree owner target so)
 
   pub records_alike : (tree : Bor ZoneTree) (owner : ℕ) → Replies (reply.Records tree owner)
       → (s t : RrType) → at_name tree.now.zone (name_of tree.now owner) s ≡ at_name tree.now.zone (name_of tree.now owner) t
       → next setting s state ≡ next setting t state
   records_alike tree owner so s t same =
-      replying.decided_by setting state s tree.now.zone (ByRecords (name_of tree.now owner)) so.0 so.1.1
+      replying.records_found setting state s tree owner so
       ∙ ap (after_lookup setting state tree.now.zone.origin) same
-      ∙ sym (replying.decided_by setting state t tree.now.zone (ByRecords (name_of tree.now owner)) so.0 so.1.1)
+      ∙ sym (replying.records_found setting state t tree owner so)

@@ -1,4 +1,5 @@
 mod AllFirsts
+mod CutTables
 pub mod CutsInside
 pub mod FirstsByName
 pub mod Glue

@@ -9,7 +9,7 @@ use Rattle.dns_data.specs.declared.rr_type.RrType.TheVariants as types
 use Rattle.net_model.specs.declared.config.Zone.{Zone}
 use Rattle.net_model.specs.declared.walk.Leaf.TheVariants as leaf
 use Rattle.net_model.specs.declared.walk.State.{State}
-use Rattle.net_model.specs.Lookup.{Deciding, ByCut, ByNothing, ByRecords, ByRedirection, aliased, answer_of, answered, redirected}
+use Rattle.net_model.specs.Lookup.{Deciding, ByCut, ByNothing, ByRecords, ByRedirection, aliased, answer_of, answered, at_name, redirected}
 use Rattle.net_model.specs.Nearest.{nearest_of}
 use Rattle.net_model.specs.Order.{in_order}
 use Rattle.net_model.specs.Step.{Setting, Branch, End, after_lookup, in_zone, next, referred}
@@ -30,6 +30,15 @@ module _ (setting : Setting) (state : State) (rtype : RrType) where
 
   abbrev Replies : Reply → Type 0
   Replies one = IsReply setting.config state.server state.name one
+
+  -- what records answer leads on, those of an alias among them
+  pub alias_found : (tree : Bor ZoneTree) (owner : ℕ) (target : Bor Labels) → Replies (reply.Alias tree owner target)
+      → next setting rtype state ≡ after_lookup setting state tree.now.zone.origin (at_name tree.now.zone (name_of tree.now owner) rtype)
+  alias_found tree owner target so = decided_by tree.now.zone (ByRecords (name_of tree.now owner)) so.0 so.1.1
+
+  pub records_found : (tree : Bor ZoneTree) (owner : ℕ) → Replies (reply.Records tree owner)
+      → next setting rtype state ≡ after_lookup setting state tree.now.zone.origin (at_name tree.now.zone (name_of tree.now owner) rtype)
+  records_found tree owner so = decided_by tree.now.zone (ByRecords (name_of tree.now owner)) so.0 so.1.1
 
   pub outside_ends : Replies reply.Outside → next setting rtype state ≡ End None leaf.Outside ∷ []
   outside_ends so = ap (in_zone setting rtype state) so
@@ -62,13 +71,11 @@ module _ (setting : Setting) (state : State) (rtype : RrType) where
   pub alias_leads : (tree : Bor ZoneTree) (owner : ℕ) (target : Bor Labels) → Replies (reply.Alias tree owner target)
       → next setting rtype state ≡ by_alias tree.now owner (if type_eq rtype types.Cname then None else Some target.now)
   alias_leads tree owner target so =
-      decided_by tree.now.zone (ByRecords (name_of tree.now owner)) so.0 so.1.1
-      ∙ ap (λ (alias : Option Labels). by_alias tree.now owner (if type_eq rtype types.Cname then None else alias)) so.1.2
+      alias_found tree owner target so ∙ ap (λ (alias : Option Labels). by_alias tree.now owner (if type_eq rtype types.Cname then None else alias)) so.1.2
 
   pub records_answer : (tree : Bor ZoneTree) (owner : ℕ) → Replies (reply.Records tree owner) → next setting rtype state ≡ answers_data tree.now owner
   records_answer tree owner so =
-      decided_by tree.now.zone (ByRecords (name_of tree.now owner)) so.0 so.1.1
-      ∙ ap (by_alias tree.now owner) (none (type_eq rtype types.Cname))
+      records_found tree owner so ∙ ap (by_alias tree.now owner) (none (type_eq rtype types.Cname))
     where
       none : (b : Bool) → cond b None (alias_at tree.now owner) ≡ None
       none true = refl

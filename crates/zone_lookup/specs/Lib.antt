@@ -5,6 +5,8 @@ pub use Rattle.net_model.specs.Step
 pub use Rattle.net_model.specs.Walk
 pub use Rattle.zone_tree.specs.Tree
 pub mod Alike
+pub mod CutFlags
+pub mod CutTable
 pub mod Firsts
 pub mod Hosts
 pub mod Leads

@@ -4,6 +4,7 @@ ghost use Rattle.std.specs.Prelude.{◌≡◌, true, length, map, IsPermutation,
 ghost use Rattle.std.specs.Option.{option_map};
 ghost use Rattle.dns_data.specs.Name.{is_prefix};
 ghost use Rattle.net_model.specs.Nearest.{server_named, zone_with_origin, held_zone, nearest, nearest_of};
+ghost use Rattle.zone_lookup.specs.Hosts.{AreHostsOf, AreTreesOf};
 
 use crate::firsts::{MadeOf, firsts_in_order};
 use crate::named::{Named, item_named, item_near, near_of, nearest_item};
@@ -52,6 +53,13 @@ impl<'a> Hosts<'a> {
         ensures { IfSome result (λ hosts. IsPermutation self.now.servers hosts.now) }
     {
         if_as_many(self.hosts.as_slice(), self.config.servers.items().len())
+    }
+
+    /// The first servers of each name, in the order of their names.
+    pub(crate) fn in_order(&self) -> &[Host<'a>]
+        ensures { AreHostsOf self.now.servers result.now }
+    {
+        self.hosts.as_slice()
     }
 
     /// The configured server of this name, the first of several.
@@ -116,8 +124,8 @@ impl<'a> Hosts<'a> {
 /// A place near which a server and its nearest zone are looked for. What it says is tried, never trusted.
 #[derive(Clone, Copy, Debug)]
 pub struct Near {
-    host: usize,
-    tree: usize,
+    pub(crate) host: usize,
+    pub(crate) tree: usize,
 }
 
 /// A server with the trees of its zones. Contracts see the server.
@@ -160,6 +168,13 @@ impl<'a> Host<'a> {
         ensures { IfSome result (λ trees. IsPermutation self.now.zones (map (λ tree. tree.zone) trees.now)) }
     {
         if_as_many(self.trees.as_slice(), self.server.zones.items().len())
+    }
+
+    /// The trees of the server's first zones of each origin, in the order of their origins.
+    pub(crate) fn in_order(&self) -> &[Tree<'a>]
+        ensures { AreTreesOf self.now.zones result.now }
+    {
+        self.trees.as_slice()
     }
 
     /// The server's name.

@@ -30,6 +30,8 @@
 #![tactic(auto)]
 
 mod alike;
+mod cut_flags;
+mod cut_table;
 mod ends;
 mod firsts;
 mod follow;
@@ -51,6 +53,8 @@ mod tops;
 mod walker;
 
 pub use alike::{one_set, split_by, split_types};
+pub use cut_flags::CutFlags;
+pub use cut_table::CutTable;
 pub use ends::gives_address;
 pub use follow::has_glue_below;
 pub use hosts::{Host, Hosts, Near};

@@ -2,14 +2,12 @@
 
 ghost use Rattle.std.specs.Prelude.{◌≡◌, ◌++◌, true, OnOk};
 ghost use Rattle.dns_data.specs.Name.{is_prefix};
-ghost use Rattle.net_model.specs.declared.fault.Fault.{Fault as FaultValue};
-ghost use Rattle.zone_lookup.specs.ReferralFaults.{cut_faults, if_shown, referral_faults};
+ghost use Rattle.zone_lookup.specs.ReferralFaults.{cut_faults, referral_faults};
 
+use crate::cut_flags::CutFlags;
 use crate::hosts::Hosts;
 use crate::learnt_sets::LearntSets;
 use crate::lent_cut::LentCut;
-use crate::sides::{addresses_differ, zones_differ};
-use crate::sound::{depends_on_itself, wants_glue};
 use dns_data::{List, NoMemory};
 use net_model::{Cut, Fault};
 use std::alloc::Global;
@@ -44,30 +42,5 @@ fn put_referral(
     requires { is_prefix cut.now.zone cut.now.cut ≡ true }
     ensures { OnOk result (faults.new ≡ faults.old ++ referral_faults hosts.now sets.now cut.now) }
 {
-    let lent = LentCut::of(cut);
-    let differs = zones_differ(hosts, lent);
-    put_shown(alloc, differs, Fault::Differs, cut, faults)?;
-    let no_glue = wants_glue(hosts, lent);
-    put_shown(alloc, no_glue, Fault::NoGlue, cut, faults)?;
-    let glue_differs = addresses_differ(alloc, hosts, lent)?;
-    put_shown(alloc, glue_differs, Fault::GlueDiffers, cut, faults)?;
-    let cyclic = depends_on_itself(hosts, sets, lent);
-    put_shown(alloc, cyclic, Fault::Cyclic, cut, faults)
-}
-
-/// Puts the fault of this kind at a zone cut behind the others, where it is shown.
-fn put_shown<F: Fn(Cut) -> Fault>(
-    alloc: Global,
-    shown: bool,
-    kind: F,
-    cut: &Cut,
-    faults: &mut List<Fault>,
-) -> Result<(), NoMemory>
-    requires { F.IsAlwaysCallable kind }
-    ensures { OnOk result ((fault : FaultValue) → ((made : FaultValue) → F.post kind cut.now made → made ≡ fault) → faults.new ≡ faults.old ++ if_shown shown fault) }
-{
-    if shown {
-        return faults.push(kind(cut.copy(alloc)?));
-    }
-    Ok(())
+    CutFlags::of(alloc, hosts, sets, LentCut::of(cut))?.put_faults(alloc, cut, faults)
 }

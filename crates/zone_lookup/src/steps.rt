@@ -1,14 +1,11 @@
 //! One step of a walk.
 
-ghost use Rattle.std.specs.Prelude.{◌≡◌, ◌∷◌, [], true, map, None, Some, IfOk, if◌then◌else◌};
+ghost use Rattle.std.specs.Prelude.{◌≡◌, ◌∷◌, [], true, map, List, None, Some, IfOk};
 ghost use Rattle.dns_data.specs.Name.{Labels, is_prefix};
-ghost use Rattle.dns_data.specs.RrType.{type_eq};
-ghost use Rattle.dns_data.specs.declared.rr_type.RrType.TheVariants as types;
 ghost use Rattle.net_model.specs.declared.found.Found.TheVariants as found_as;
 ghost use Rattle.net_model.specs.declared.walk.Hop.TheVariants as hop_as;
-ghost use Rattle.net_model.specs.declared.walk.State.{State as StateValue};
-ghost use Rattle.net_model.specs.Lookup.{aliased, answer_of, redirected};
-ghost use Rattle.net_model.specs.Step.{Setting, End, after_lookup, next, referred};
+ghost use Rattle.net_model.specs.Lookup.{at_name};
+ghost use Rattle.net_model.specs.Step.{End, after_lookup, next, referred};
 ghost use Rattle.net_model.specs.Zone.{ns_names};
 ghost use Rattle.zone_lookup.specs.LentCut.{cut_of};
 ghost use Rattle.zone_lookup.specs.Reply.{IsReply};
@@ -20,11 +17,11 @@ use crate::lent_cut::LentCut;
 use crate::reply::{Reply, reply_in};
 use crate::rewrites::rewrites;
 use crate::walker::Walker;
-use dns_data::{Boxed, JoinFault, List, Name, NoMemory, Rdata, RrType, copied_data};
-use name_rules::substitute;
-use net_model::{Cut, Hop, Leaf, Place, State};
+use dns_data::{Boxed, List, Name, NoMemory, RrType};
+use name_rules::redirected;
+use net_model::{Cut, Found, Hop, Leaf, Place, State};
 use std::alloc::Global;
-use zone_tree::{NodeId, Tree};
+use zone_tree::{NodeId, Tree, at_name};
 
 /// What a state leads to: a next state by a hop, or an end. Each stands in memory of its own from where it is made to where
 /// it is kept, so that a step takes a few octets wherever it is moved.
@@ -43,6 +40,7 @@ pub fn steps_of(
 ) -> Result<List<Step>, NoMemory>
     ensures { IfOk result (λ steps. map branch_of steps ≡ next walker.now rtype state.now) }
 {
+    // Not by `reply_of`: a reply whose tree isn't named here has no proof.
     match walker.hosts().nearest_of(&state.server, &state.name) {
         Some(tree) => {
             let reply = reply_in(tree, &state.name);
@@ -53,7 +51,7 @@ pub fn steps_of(
 }
 
 /// The steps of a state with a type, in order, by what its server replies to its name.
-#[tactic(auto, using(crate::proofs::Replying::outside_ends, crate::proofs::Replying::nothing_ends, crate::proofs::Replying::refers_on, crate::proofs::Replying::refers_inside, crate::proofs::Replying::redirects_on, crate::proofs::Replying::alias_leads, crate::proofs::Replying::records_answer))]
+#[tactic(auto, using(crate::proofs::Replying::outside_ends, crate::proofs::Replying::nothing_ends, crate::proofs::Replying::refers_on, crate::proofs::Replying::refers_inside, crate::proofs::Replying::redirects_on, crate::proofs::Replying::alias_found, crate::proofs::Replying::records_found))]
 pub fn next_steps(
     alloc: Global,
     walker: &Walker<'_, '_>,
@@ -68,69 +66,54 @@ pub fn next_steps(
         Reply::Outside => ended(alloc, Leaf::Outside),
         Reply::Refers(tree, cut) => referrals(alloc, walker, state, tree, cut),
         Reply::Redirects(tree, owner, target) => {
-            redirected(alloc, walker, state, tree, owner, target)
+            let found = redirected(alloc, &state.name, tree.name(owner), Some(target))?;
+            after_lookup(alloc, walker, state, tree, found)
         }
-        Reply::Alias(tree, owner, target) => {
-            aliased(alloc, walker, state, tree, owner, target, rtype)
-        }
-        Reply::Records(tree, owner) => answered(alloc, tree.set(owner, rtype)),
+        Reply::Alias(tree, owner, _) => by_records(alloc, walker, state, tree, owner, rtype),
+        Reply::Records(tree, owner) => by_records(alloc, walker, state, tree, owner, rtype),
         Reply::Nothing(_) => ended(alloc, Leaf::NxDomain),
     }
 }
 
-/// The steps of a state whose name is an alias of this target, by a record of the owner (RFC 1034 section 3.6.2).
-fn aliased(
+/// The steps of a state whose name these records answer, those of an alias among them (RFC 1034 section 3.6.2).
+fn by_records(
     alloc: Global,
     walker: &Walker<'_, '_>,
     state: &State,
     tree: &Tree<'_>,
     owner: NodeId,
-    target: &Name,
     rtype: RrType,
 ) -> Result<List<Step>, NoMemory>
     requires { IsNode tree.now owner }
-    ensures { IfOk result (λ steps. map branch_of steps ≡ after_lookup walker.now state.now tree.now.zone.origin (aliased tree.now.zone (name_of tree.now owner) rtype (if type_eq rtype types.Cname then None else Some target.now))) }
+    ensures { IfOk result (λ steps. map branch_of steps ≡ after_lookup walker.now state.now tree.now.zone.origin (at_name tree.now.zone (name_of tree.now owner) rtype)) }
 {
-    if rtype.number() == RrType::Cname.number() {
-        return answered(alloc, tree.set(owner, rtype));
-    }
-    renamed(
-        alloc,
-        walker,
-        state,
-        tree,
-        owner,
-        false,
-        target.copy(alloc)?,
-    )
+    let found = at_name(alloc, tree, owner, rtype)?;
+    after_lookup(alloc, walker, state, tree, found)
 }
 
-/// The step to the end in these data of a type, or in that there are none.
-fn answered(alloc: Global, items: &[Rdata]) -> Result<List<Step>, NoMemory>
-    ensures { IfOk result (λ steps. (setting : Setting) (state : StateValue) (origin : Labels) → map branch_of steps ≡ after_lookup setting state origin (answer_of items.now)) }
-{
-    if items.is_empty() {
-        return ended(alloc, Leaf::NoData);
-    }
-    ended(alloc, Leaf::Answer(copied_data(alloc, items)?))
-}
-
-/// The steps of a state whose name a DNAME record of the owner with this target redirects (RFC 6672 section 2.2).
-fn redirected(
+/// The steps of a state by what its server finds in the zone of the tree, which isn't a referral.
+fn after_lookup(
     alloc: Global,
     walker: &Walker<'_, '_>,
     state: &State,
     tree: &Tree<'_>,
-    owner: NodeId,
-    target: &Name,
+    found: Found,
 ) -> Result<List<Step>, NoMemory>
-    requires { IsNode tree.now owner }
-    ensures { IfOk result (λ steps. map branch_of steps ≡ after_lookup walker.now state.now tree.now.zone.origin (redirected state.now.name (name_of tree.now owner) (Some target.now))) }
+    requires { (cut : Labels) (names : List Labels) → found ≡ found_as.Referral cut names → ⊥ }
+    ensures { IfOk result (λ steps. map branch_of steps ≡ after_lookup walker.now state.now tree.now.zone.origin found) }
 {
-    match substitute(alloc, &state.name, tree.name(owner), target) {
-        Ok(to) => renamed(alloc, walker, state, tree, owner, true, to),
-        Err(JoinFault::TooLong) => overlong(alloc, walker, state, tree, owner),
-        Err(JoinFault::NoMemory) => Err(NoMemory),
+    match found {
+        Found::Rewrite {
+            by_dname,
+            owner,
+            to,
+        } => renamed(alloc, walker, state, tree, owner, by_dname, to),
+        Found::TooLong { owner } => overlong(alloc, walker, state, tree, owner),
+        Found::Answer(data) => ended(alloc, Leaf::Answer(data)),
+        Found::NoData => ended(alloc, Leaf::NoData),
+        Found::NxDomain => ended(alloc, Leaf::NxDomain),
+        // It isn't one.
+        Found::Referral { .. } => unreachable!(),
     }
 }
 
@@ -140,12 +123,11 @@ fn renamed(
     walker: &Walker<'_, '_>,
     state: &State,
     tree: &Tree<'_>,
-    owner: NodeId,
+    owner: Name,
     by_dname: bool,
     to: Name,
 ) -> Result<List<Step>, NoMemory>
-    requires { IsNode tree.now owner }
-    ensures { IfOk result (λ steps. map branch_of steps ≡ after_lookup walker.now state.now tree.now.zone.origin (found_as.Rewrite by_dname (name_of tree.now owner) to)) }
+    ensures { IfOk result (λ steps. map branch_of steps ≡ after_lookup walker.now state.now tree.now.zone.origin (found_as.Rewrite by_dname owner to)) }
 {
     let place = place_at(alloc, state, tree, owner)?;
     if state.used < walker.rewrites() {
@@ -161,10 +143,9 @@ fn overlong(
     walker: &Walker<'_, '_>,
     state: &State,
     tree: &Tree<'_>,
-    owner: NodeId,
+    owner: Name,
 ) -> Result<List<Step>, NoMemory>
-    requires { IsNode tree.now owner }
-    ensures { IfOk result (λ steps. map branch_of steps ≡ after_lookup walker.now state.now tree.now.zone.origin (found_as.TooLong (name_of tree.now owner))) }
+    ensures { IfOk result (λ steps. map branch_of steps ≡ after_lookup walker.now state.now tree.now.zone.origin (found_as.TooLong owner)) }
 {
     let place = place_at(alloc, state, tree, owner)?;
     if state.used < walker.rewrites() {
@@ -192,14 +173,13 @@ pub(crate) fn one_step(alloc: Global, step: Step) -> Result<List<Step>, NoMemory
 }
 
 /// The place of a rewrite by a record of the owner.
-fn place_at(alloc: Global, state: &State, tree: &Tree<'_>, owner: NodeId) -> Result<Place, NoMemory>
-    requires { IsNode tree.now owner }
-    ensures { IfOk result (λ place. place ≡ record { server = state.now.server; zone = tree.now.zone.origin; owner = name_of tree.now owner }) }
+fn place_at(alloc: Global, state: &State, tree: &Tree<'_>, owner: Name) -> Result<Place, NoMemory>
+    ensures { IfOk result (λ place. place ≡ record { server = state.now.server; zone = tree.now.zone.origin; owner = owner }) }
 {
     Ok(Place {
         server: state.server.copy(alloc)?,
         zone: tree.zone().origin.copy(alloc)?,
-        owner: tree.name(owner).copy(alloc)?,
+        owner,
     })
 }
 

@@ -28,8 +28,8 @@ impl NodeId {
         NodeId { place }
     }
 
-    /// The node's place.
-    pub(crate) fn place(&self) -> usize
+    /// The place of the node's name among the existing names of its zone, in order, counted from 0.
+    pub fn place(&self) -> usize
         ensures value { result ≡ self.now }
     {
         self.place

@@ -1,6 +1,6 @@
 //! Trees of zones.
 
-ghost use Rattle.std.specs.Prelude.{◌≡◌, ◌↔◌, ◌++◌, ◌∷◌, [], map, true, false, Contains, AllPairs, IsNone, IfSome, IfOk};
+ghost use Rattle.std.specs.Prelude.{◌≡◌, ◌↔◌, ◌++◌, ◌∷◌, ◌≤◌, [], length, map, true, false, Contains, AllPairs, IsNone, IfNone, IfSome, IfOk};
 ghost use Rattle.std.specs.Option.{option_map};
 ghost use Rattle.std.specs.declared.cmp.Ordering.TheVariants.{Less};
 ghost use Rattle.dns_data.specs.Name.{Labels, name_cmp, is_prefix};
@@ -112,6 +112,18 @@ impl<'a> Tree<'a> {
         ensures none { IsNone result ↔ (exists_in self.now.zone name.now ≡ false) }
     {
         self.node_of(&name.labels())
+    }
+
+    /// The node of the existing name at a place, in order and counted from 0, or `None` behind the last one.
+    pub fn node_in(&self, place: usize) -> Option<NodeId>
+        ensures some { IfSome result (λ node. (node ≡ place) × IsNode self.now node) }
+        ensures none { IfNone result (length self.now.names ≤ place) }
+    {
+        if place < self.names.items().len() {
+            Some(NodeId::at(place))
+        } else {
+            None
+        }
     }
 
     /// The node of the name with these labels, or `None` where that name doesn't exist in the zone.

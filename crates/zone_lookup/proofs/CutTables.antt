@@ -1,0 +1,173 @@
+-- Tables of what referrals show: what their rows tell of the zones that servers hold.
+use Rattle.std.proofs.Common.{◌≡◌, ◌<◌, ◌≤◌, ◌+◌, ℕ, Less, Greater, is_eq, inl, inr, arith, Bool, true, false, cond, List, [], ◌∷◌, ◌++◌, map, Option, Some, None, sym, refl, ap, ◌∙◌, subst}
+use Rattle.std.specs.Prelude.{◌&&◌, option_and_then}
+use Rattle.std.specs.List.{AllByRecursion, AllZip, list_any}
+use Rattle.std.specs.Option.{option_map}
+use Rattle.std.specs.Cmp.{nat_cmp_is}
+use Rattle.std.proofs.lemmas.Bool.{and_parts, cases_lt, or_cases}
+use Rattle.std.proofs.lemmas.List.Elements.{Contains-get_or}
+use Rattle.std.proofs.lemmas.Option.{option_and_then_some}
+use Rattle.dns_data.specs.Name.{Labels, is_prefix, name_cmp, name_eq}
+use Rattle.dns_data.proofs.NameFronts.{begins_itself}
+use Rattle.dns_data.proofs.NameOrder.{names_total}
+use Rattle.dns_data.proofs.Names.{name_eq_decides}
+use Rattle.dns_data.proofs.OrderedLists.{same_rising}
+use Rattle.dns_data.proofs.Searches.{found_there}
+use Rattle.net_model.specs.declared.config.Config.{Config}
+use Rattle.net_model.specs.declared.config.Server.{Server}
+use Rattle.net_model.specs.declared.config.Zone.{Zone}
+use Rattle.net_model.specs.declared.deps.Deps.{Deps}
+use Rattle.net_model.specs.declared.place.Cut.{Cut}
+use Rattle.net_model.specs.Nearest.{server_named, zone_with_origin}
+use Rattle.net_model.specs.Zone.{exists_in}
+use Rattle.zone_tree.specs.Tree.{ZoneTree, IsNode, name_of}
+use Rattle.zone_lookup.specs.CutFlags.{flags_of, is_quiet}
+use Rattle.zone_lookup.specs.CutTable.{AreRowsOf, HostRow, IsHostRow, IsPut, IsTableOf, IsToldOf, IsWholeTree, IsZoneRow, TellsPlaces, ZoneRow, referrals_at, told_at, told_of}
+use Rattle.zone_lookup.specs.Hosts.{AreTreesOf}
+use Rattle.zone_lookup.specs.Named.{item_named}
+use Rattle.zone_lookup.specs.declared.cut_flags.CutFlags.{CutFlags}
+
+-- the referral of a zone cut to a name server
+abbrev pub cut_to : Labels → Zone → Labels → Labels → Cut
+cut_to server zone cut ns = record { server = server; zone = zone.origin; cut = cut; ns = ns }
+
+module _ {X Y : Type 0} (R : X → Y → Type 0) (name_of_x : X → Labels) (name_of_y : Y → Labels) (same : (x : X) (y : Y) → R x y → name_of_y y ≡ name_of_x x) (name : Labels) where
+  -- beside the item of a name stands the one of that name in the other list
+  pub beside_named : (xs : List X) (ys : List Y) (x : X) → AllZip R xs ys → item_named name_of_x xs name ≡ Some x
+      → (y : Y) × (item_named name_of_y ys name ≡ Some y) × R x y
+  beside_named [] [] x beside found = cc
+  beside_named [] (other ∷ ys) x beside found = absurd beside
+  beside_named (first ∷ xs) [] x beside found = absurd beside
+  beside_named (first ∷ xs) (other ∷ ys) x beside found = by (name_eq (name_of_x first) name) refl found (beside_named xs ys x beside.1) where
+    test : name_eq (name_of_y other) name ≡ name_eq (name_of_x first) name
+    test = ap (λ (n : Labels). name_eq n name) (same first other beside.0)
+
+    by : (b : Bool) → name_eq (name_of_x first) name ≡ b → cond b (Some first) (item_named name_of_x xs name) ≡ Some x
+        → (item_named name_of_x xs name ≡ Some x → (y : Y) × (item_named name_of_y ys name ≡ Some y) × R x y)
+        → (y : Y) × (item_named name_of_y (other ∷ ys) name ≡ Some y) × R x y
+    by true e found rest =
+        let is : first ≡ x = cc in
+        (other, ap (λ (b : Bool). cond b (Some other) (item_named name_of_y ys name)) (test ∙ e), subst (λ (z : X). R z other) is beside.0)
+    by false e found rest =
+        let later = rest found in
+        (later.0, ap (λ (b : Bool). cond b (Some other) (item_named name_of_y ys name)) (test ∙ e) ∙ later.1, later.2)
+
+-- what is mapped comes of an item
+mapped_some : {X Y : Type 0} (f : X → Y) (some : Option X) (y : Y) → option_map f some ≡ Some y → (x : X) × (some ≡ Some x) × (f x ≡ y)
+mapped_some f None y e = cc
+mapped_some f (Some x) y e = (x, refl, cc)
+
+-- the name of a whole tree's node is at or below the origin
+pub node_inside : (tree : ZoneTree) (node : ℕ) → IsWholeTree tree → IsNode tree node → is_prefix tree.zone.origin (name_of tree node) ≡ true
+node_inside tree node whole within =
+    let name = name_of tree node in
+    elim (or_cases (name_eq name tree.zone.origin) (is_prefix tree.zone.origin name && list_any (λ rr. is_prefix name rr.owner) tree.zone.rrs)
+    ((whole.names name).0 (Contains-get_or tree.names node [] within))) [
+      | inl origin ↦ (
+          let same : name ≡ tree.zone.origin = (name_eq_decides name tree.zone.origin).0 origin in
+          subst (λ (x : Labels). is_prefix tree.zone.origin x ≡ true) (sym same) (begins_itself tree.zone.origin))
+      | inr beneath ↦ (and_parts (is_prefix tree.zone.origin name) (list_any (λ rr. is_prefix name rr.owner) tree.zone.rrs) beneath).0
+    ]
+
+-- whole trees of one zone are one
+pub one_tree : (a b : ZoneTree) → IsWholeTree a → IsWholeTree b → a.zone ≡ b.zone → a ≡ b
+one_tree a b whole other same =
+    let names : a.names ≡ b.names =
+    same_rising name_cmp names_total a.names b.names whole.once other.once
+    (λ name has. (other.names name).1 (subst (λ (z : Zone). exists_in z name ≡ true) same ((whole.names name).0 has)))
+    (λ name has. (whole.names name).1 (subst (λ (z : Zone). exists_in z name ≡ true) (sym same) ((other.names name).0 has))) in
+    ap (λ (z : Zone). record { zone = z; names = a.names }) same ∙ ap (λ (n : List Labels). record { zone = b.zone; names = n }) names
+
+module _ (config : Config) (deps : Deps) where
+  -- rows beside the trees of a server's zones tell of these
+  pub host_told : (host : Server) (trees : List ZoneTree) (row : HostRow) → row.server ≡ host.name → AreTreesOf host.zones trees
+      → AllZip (IsZoneRow config deps host.name) trees row.zones → IsHostRow config deps host row
+  host_told host trees row named are beside =
+      record {
+        name = named;
+        told = λ tree node held whole within.
+            let found = mapped_some (λ (t : ZoneTree). t.zone) (item_named (λ (t : ZoneTree). t.zone.origin) trees tree.zone.origin) tree.zone (are.firsts tree.zone.origin ∙ held) in
+            let there = beside_named (IsZoneRow config deps host.name) (λ (t : ZoneTree). t.zone.origin) (λ (z : ZoneRow). z.origin) (λ t z is. is.origin)
+            tree.zone.origin trees row.zones found.0 beside found.1 in
+            let one : found.0 ≡ tree = one_tree found.0 tree there.2.whole whole found.2 in
+            let tells : TellsPlaces config deps host.name tree (IsNode tree) there.0.cuts =
+            subst (λ (t : ZoneTree). TellsPlaces config deps host.name t (IsNode t) there.0.cuts) one there.2.told in
+            subst (IsToldOf config deps (referrals_at host.name tree.zone (name_of tree node)))
+            (sym (ap (option_and_then (λ (z : ZoneRow). told_at z.cuts node)) there.1)) (tells node within);
+      }
+
+  -- rows of all servers are a table of the configuration
+  pub table_of_rows : (rows : List HostRow) → AreRowsOf config deps rows → IsTableOf config deps rows
+  table_of_rows rows are =
+      record {
+        each = λ server tree node held whole within.
+            option_and_then_some (λ (h : Server). zone_with_origin h tree.zone.origin) (server_named config server) tree.zone held
+            (λ host named in_host.
+            let found = mapped_some (λ (h : Server). h) (item_named (λ (h : Server). h.name) are.hosts server) host (are.are.firsts server ∙ named) in
+            let there = beside_named (IsHostRow config deps) (λ (h : Server). h.name) (λ (r : HostRow). r.server) (λ h r is. is.name)
+            server are.hosts rows found.0 are.beside found.1 in
+            let told : IsHostRow config deps host there.0 = subst (λ (h : Server). IsHostRow config deps h there.0) found.2 there.2 in
+            let its : host.name ≡ server = (name_eq_decides host.name server).0 (found_there (λ (h : Server). name_eq h.name server) config.servers host named).1 in
+            let says : IsToldOf config deps (referrals_at server tree.zone (name_of tree node)) (told_of there.0 tree.zone.origin node) =
+            subst (λ (n : Labels). IsToldOf config deps (referrals_at n tree.zone (name_of tree node)) (told_of there.0 tree.zone.origin node)) its
+            (told.told tree node in_host whole within) in
+            subst (IsToldOf config deps (referrals_at server tree.zone (name_of tree node)))
+            (sym (ap (option_and_then (λ (r : HostRow). told_of r tree.zone.origin node)) there.1)) says);
+      }
+
+  -- referrals are quiet whose flags are
+  quiet_cuts : (cuts : List Cut) → AllByRecursion (λ (one : CutFlags). is_quiet one ≡ true) (map (flags_of config deps) cuts)
+      → AllByRecursion (λ (cut : Cut). is_quiet (flags_of config deps cut) ≡ true) cuts
+  quiet_cuts [] all = tt
+  quiet_cuts (cut ∷ cuts) all = (all.0, quiet_cuts cuts all.1)
+
+  module _ (server : Labels) (tree : ZoneTree) where
+    -- the row so far: it tells of the names before the place, and holds nothing for those from there on
+    pub record IsRowUpTo (place : ℕ) (cuts : List (ℕ × List CutFlags)) : Type 0 where
+      pub told : TellsPlaces config deps server tree (λ node. node < place) cuts
+      pub behind : (node : ℕ) → place ≤ node → told_at cuts node ≡ None
+
+    -- with the flags of one more name put it tells of one more
+    pub told_more : (place : ℕ) (flags : List CutFlags) (old new : List (ℕ × List CutFlags)) → IsRowUpTo place old → IsPut place flags old new
+        → flags ≡ map (flags_of config deps) (referrals_at server tree.zone (name_of tree place)) → IsRowUpTo (place + 1) new
+    told_more place flags old new far put is =
+        record {
+          told = λ node within. elim (cases_lt node place) [
+            | inl lower ↦ subst (IsToldOf config deps (referrals_at server tree.zone (name_of tree node)))
+                (sym (put.others node (sym (ap is_eq (nat_cmp_is place node Greater lower))))) (far.told node lower)
+            | inr last ↦ (
+                let same : place ≡ node = omega arith in
+                subst (λ (n : ℕ). IsToldOf config deps (referrals_at server tree.zone (name_of tree n)) (told_at new n)) same here)
+          ];
+          behind = λ node beyond.
+              put.others node (sym (ap is_eq (nat_cmp_is place node Less (omega (arith, beyond))))) ∙ far.behind node (omega (arith, beyond));
+        }
+      where
+        here : IsToldOf config deps (referrals_at server tree.zone (name_of tree place)) (told_at new place)
+        here =
+            elim put.there [
+              | inl some ↦ subst (IsToldOf config deps (referrals_at server tree.zone (name_of tree place))) (sym some) is
+              | inr quiet ↦ (
+                  let none : told_at new place ≡ None = quiet.1 ∙ far.behind place (omega arith) in
+                  let all : AllByRecursion (λ (cut : Cut). is_quiet (flags_of config deps cut) ≡ true) (referrals_at server tree.zone (name_of tree place)) =
+                  quiet_cuts (referrals_at server tree.zone (name_of tree place)) (subst (AllByRecursion (λ (one : CutFlags). is_quiet one ≡ true)) is quiet.0) in
+                  subst (IsToldOf config deps (referrals_at server tree.zone (name_of tree place))) (sym none) all)
+            ]
+
+-- one item more beside one more
+pub beside_more : {X Y : Type 0} (R : X → Y → Type 0) (xs : List X) (ys : List Y) (x : X) (y : Y) → AllZip R xs ys → R x y → AllZip R (xs ++ x ∷ []) (ys ++ y ∷ [])
+beside_more R [] [] x y beside one = (one, tt)
+beside_more R [] (other ∷ ys) x y beside one = absurd beside
+beside_more R (first ∷ xs) [] x y beside one = absurd beside
+beside_more R (first ∷ xs) (other ∷ ys) x y beside one = (beside.0, beside_more R xs ys x y beside.1 one)
+
+-- rows beside items have the names of these
+pub beside_names : {X Y : Type 0} (R : X → Y → Type 0) (name_of_x : X → Labels) (name_of_y : Y → Labels) → ((x : X) (y : Y) → R x y → name_of_y y ≡ name_of_x x)
+    → (xs : List X) (ys : List Y) → AllZip R xs ys → map name_of_y ys ≡ map name_of_x xs
+beside_names R name_of_x name_of_y same [] [] beside = refl
+beside_names R name_of_x name_of_y same [] (other ∷ ys) beside = absurd beside
+beside_names R name_of_x name_of_y same (first ∷ xs) [] beside = absurd beside
+beside_names R name_of_x name_of_y same (first ∷ xs) (other ∷ ys) beside =
+    let here : name_of_y other ≡ name_of_x first = same first other beside.0 in
+    let later : map name_of_y ys ≡ map name_of_x xs = beside_names R name_of_x name_of_y same xs ys beside.1 in
+    cc
