@@ -13,7 +13,7 @@ use Rattle.graph_form.specs.Graph.{arm_pairs}
 use Rattle.graph_form.proofs.Places.{item_there, pairs_joined}
 use Rattle.graph_form.proofs.Reached.{Differ, arm_differs, every_type}
 use Rattle.interp_graph.specs.Listed.{but_cname, every}
-use Rattle.interp_graph.specs.Making.{later, typed, typed_now}
+use Rattle.interp_graph.specs.Making.{firsts_behind, typed, typed_now}
 
 -- the pairs of a state with these types
 abbrev row : (RrType → Bool) → State → List (State × RrType)
@@ -35,7 +35,7 @@ from_row_of among state pair has =
 -- the pairs of states: of so many first ones with all types, and of the others with all but CNAME
 abbrev pub pairs_listed : ℕ → List State → List (State × RrType)
 pairs_listed first [] = []
-pairs_listed first (state ∷ states) = row (typed_now first) state ++ pairs_listed (later first) states
+pairs_listed first (state ∷ states) = row (typed_now first) state ++ pairs_listed (firsts_behind first) states
 
 -- they are eleven for each state, and one more for each of the first ones
 pub many_listed : (first : ℕ) (states : List State) → first ≤ length states → length (pairs_listed first states) ≡ 11 * length states + first
@@ -58,29 +58,29 @@ pub listed_has : (first : ℕ) (states : List State) (at : ℕ) (state : State) 
 listed_has first [] at state rtype is reaches = cc
 listed_has first (s ∷ states) zero state rtype is reaches =
     let same : s ≡ state = cc in
-    Contains-append_left (row (typed_now first) s) (pairs_listed (later first) states) (state, rtype)
+    Contains-append_left (row (typed_now first) s) (pairs_listed (firsts_behind first) states) (state, rtype)
     (subst (λ (one : State). Contains (row (typed_now first) s) (one, rtype)) same (row_has (typed_now first) s rtype reaches))
 listed_has first (s ∷ states) (suc at) state rtype is reaches =
-    Contains-append_right (row (typed_now first) s) (pairs_listed (later first) states) (state, rtype) (listed_has (later first) states at state rtype is reaches)
+    Contains-append_right (row (typed_now first) s) (pairs_listed (firsts_behind first) states) (state, rtype) (listed_has (firsts_behind first) states at state rtype is reaches)
 
 -- and there are no other pairs
 pub from_listed : (first : ℕ) (states : List State) (pair : State × RrType) → Contains (pairs_listed first states) pair
     → (at : ℕ) × (slice_get states at ≡ Some pair.0) × (typed first at pair.1 ≡ true)
 from_listed first [] pair has = absurd (none_in_nil pair has)
 from_listed first (s ∷ states) pair has =
-    elim (Contains-append_cases (row (typed_now first) s) (pairs_listed (later first) states) pair has) [
+    elim (Contains-append_cases (row (typed_now first) s) (pairs_listed (firsts_behind first) states) pair has) [
       | inl here ↦ (let of = from_row_of (typed_now first) s pair here in (0, ap Some of.0, of.1))
-      | inr behind ↦ (let of = from_listed (later first) states pair behind in (suc of.0, of.1, of.2))
+      | inr behind ↦ (let of = from_listed (firsts_behind first) states pair behind in (suc of.0, of.1, of.2))
     ]
 
 -- no pair stands twice, if no two states are equal
 pub listed_differ : (first : ℕ) (states : List State) → AllPairs (λ a b. a ≢ b) states → AllPairs Differ (pairs_listed first states)
 listed_differ first [] once = λ i j d before within. absurd (omega arith)
 listed_differ first (state ∷ states) once =
-    pairs_joined Differ (row (typed_now first) state) (pairs_listed (later first) states) (arm_differs state (record { types = map (typed_now first) types; branches = [] }))
-    (listed_differ (later first) states (pairs_rest (λ a b. a ≢ b) state states once))
+    pairs_joined Differ (row (typed_now first) state) (pairs_listed (firsts_behind first) states) (arm_differs state (record { types = map (typed_now first) types; branches = [] }))
+    (listed_differ (firsts_behind first) states (pairs_rest (λ a b. a ≢ b) state states once))
     (λ y z here there same.
-    let of = from_listed (later first) states z there in
+    let of = from_listed (firsts_behind first) states z there in
     pairs_first (λ a b. a ≢ b) state states once z.0 (item_there states of.0 z.0 of.1)
     ((from_row_of (typed_now first) state y here).0 ∙ ap (λ (p : State × RrType). p.0) same))
 

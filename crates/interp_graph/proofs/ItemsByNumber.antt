@@ -1,4 +1,5 @@
--- Items of lists by their numbers, where items are put behind others or one over another; and lists that stand side by side.
+-- Items of lists by their numbers, where items are put behind others or one over another; and lists that stand side by
+-- side.
 use Rattle.std.proofs.Common.{◌≡◌, ℕ, zero, suc, ◌<◌, ◌≤◌, List, [], ◌∷◌, ◌++◌, map, length, get_or, Some, refl, sym, ap, ◌∙◌, subst, inl, inr, arith}
 use Rattle.std.specs.Prelude.{◌⊎◌, AllPairs, Contains, slice_get, set}
 use Rattle.std.specs.List.{AllZip}

@@ -6,9 +6,8 @@ use Rattle.std.proofs.lemmas.List.Elements.{Contains-append_cases, Contains-appe
 use Rattle.std.proofs.lemmas.Option.{slice_get_within}
 use Rattle.dns_data.proofs.Membership.{none_in_nil, has_first}
 use Rattle.net_model.specs.declared.walk.State.{State}
-use Rattle.graph_form.proofs.Places.{PairAt, item_there}
 use Rattle.interp_graph.specs.Listed.{Adds, Lists, OfOne, Passes}
-use Rattle.interp_graph.specs.Making.{AreBeside}
+use Rattle.interp_graph.specs.Making.{AreBeside, StandsBeside}
 use Rattle.interp_graph.proofs.ItemsByNumber.{beside_pushed, from_pushed, in_front, item_below, pushed_there, side_by_side}
 
 -- where none is put behind them, no state is more
@@ -39,9 +38,9 @@ module _ {Is : State → Type 0} {before after : List State} (adds : Adds Is bef
       ]
     where
       pair : (i : A) (s : State) → slice_get (items ++ item ∷ []) at ≡ Some i → slice_get before at ≡ Some s → Now at i s
-          → PairAt (Now at) (items ++ item ∷ []) after at
+          → StandsBeside (Now at) (items ++ item ∷ []) after at
       pair i s is_item is_state is =
-          record { one = i; other = s; at_one = is_item; at_other = still_listed at s is_state; paired = is; has = item_there (items ++ item ∷ []) at i is_item }
+          record { one = i; other = s; at_one = is_item; at_other = still_listed at s is_state; paired = is }
 
 module _ {One Both : State → Type 0} (most : ℕ) (one : (state : State) → One state → Both state) (before : List State) where
   -- states of a kind are states of each kind that says less

@@ -14,13 +14,11 @@ use Rattle.net_model.proofs.EndsSomewhere.{ends_somewhere}
 use Rattle.net_model.proofs.Leads.{Leads, branch_taken, leads_walk}
 use Rattle.graph_form.specs.GraphOf.{StandsOn}
 use Rattle.graph_form.proofs.Places.{place_of_item}
-use Rattle.interp_graph.specs.Listed.{Comes}
+use Rattle.interp_graph.specs.Listed.{Comes, ComesOver}
 
 -- a state in which the query begins comes from there
 pub begins : (setting : Setting) (begin : List State) (state : State) (rtype : RrType) → Contains begin state → Comes setting begin rtype state
-begins setting begin state rtype has =
-    let at = place_of_item begin state has in
-    record { number = at.0; first = state; is_first = at.1; numbers = []; hops = []; leads = refl }
+begins setting begin state rtype has = record { path = []; over = has }
 
 -- one branch more
 leads_on : (setting : Setting) (rtype : RrType) (numbers : List ℕ) (hops : List Hop) (from via : State) (number : ℕ) (hop : Hop) (to : State)
@@ -37,14 +35,33 @@ leads_on setting rtype (n ∷ numbers) (h ∷ hops) from via number hop to (betw
 pub comes_on : (setting : Setting) (begin : List State) (rtype : RrType) (state : State) → Comes setting begin rtype state
     → (hop : Hop) (to : State) → Contains (next setting rtype state) (Go hop to) → Comes setting begin rtype to
 comes_on setting begin rtype state comes hop to has =
-    let at = place_of_item (next setting rtype state) (Go hop to) has in
+    record { path = state ∷ comes.path; over = (comes.over, hop, has) }
+
+-- branches with these numbers lead to the state from one in which the query begins
+record Led (setting : Setting) (begin : List State) (rtype : RrType) (state : State) : Type 0 where
+  number : ℕ
+  first : State
+  is_first : slice_get begin number ≡ Some first
+  numbers : List ℕ
+  hops : List Hop
+  leads : Leads setting rtype first numbers hops state
+
+-- those of a path that comes to it do
+led : (setting : Setting) (begin : List State) (rtype : RrType) (path : List State) (state : State) → ComesOver setting begin rtype path state
+    → Led setting begin rtype state
+led setting begin rtype [] state has =
+    let at = place_of_item begin state has in
+    record { number = at.0; first = state; is_first = at.1; numbers = []; hops = []; leads = refl }
+led setting begin rtype (before ∷ path) state (comes, hop, has) =
+    let so = led setting begin rtype path before comes in
+    let at = place_of_item (next setting rtype before) (Go hop state) has in
     record {
-      number = comes.number;
-      first = comes.first;
-      is_first = comes.is_first;
-      numbers = comes.numbers ++ at.0 ∷ [];
-      hops = comes.hops ++ hop ∷ [];
-      leads = leads_on setting rtype comes.numbers comes.hops comes.first state at.0 hop to comes.leads at.1;
+      number = so.number;
+      first = so.first;
+      is_first = so.is_first;
+      numbers = so.numbers ++ at.0 ∷ [];
+      hops = so.hops ++ hop ∷ [];
+      leads = leads_on setting rtype so.numbers so.hops so.first before at.0 hop state so.leads at.1;
     }
 
 -- a walk from a state has it as its first
@@ -69,12 +86,13 @@ has_tops setting query number first is none =
 -- a state that comes from where a query begins stands on a walk of the query, for the same type
 pub comes_stand : (setting : Setting) (query : Labels) (rtype : RrType) (state : State) → Comes setting (start setting.config query) rtype state
     → StandsOn setting query (state, rtype)
-comes_stand setting query rtype state comes =
+comes_stand setting query rtype state along =
+    let comes = led setting (start setting.config query) rtype along.path state along.over in
     let ends = ends_somewhere setting rtype (has_tops setting query comes.number comes.first comes.is_first) state in
-    let led = leads_walk setting rtype comes.numbers ends.0 comes.hops comes.first state ends.1 comes.leads ends.2 in
+    let walks = leads_walk setting rtype comes.numbers ends.0 comes.hops comes.first state ends.1 comes.leads ends.2 in
     record {
-      walk = led.walk;
-      is_walk = (comes.number ∷ (comes.numbers ++ ends.0), ap (option_and_then (walk_from setting rtype (comes.numbers ++ ends.0))) comes.is_first ∙ led.is_walk);
-      stands = subst (λ (states : List State). Contains states state) (sym led.states)
-          (Contains-append_right led.front ends.1.states state (begins_with setting rtype ends.0 state ends.1 ends.2));
+      walk = walks.walk;
+      is_walk = (comes.number ∷ (comes.numbers ++ ends.0), ap (option_and_then (walk_from setting rtype (comes.numbers ++ ends.0))) comes.is_first ∙ walks.is_walk);
+      stands = subst (λ (states : List State). Contains states state) (sym walks.states)
+          (Contains-append_right walks.front ends.1.states state (begins_with setting rtype ends.0 state ends.1 ends.2));
     }

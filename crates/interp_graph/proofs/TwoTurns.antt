@@ -33,7 +33,9 @@ use Rattle.interp_graph.proofs.TypesAlike.{typed_first, typed_rest}
 pub others_than : (all one others : List Bool) → ((rtype : RrType) → has_bit all rtype ≡ true) → ((rtype : RrType) → has_bit one rtype ≡ type_eq rr.Cname rtype)
     → ((rtype : RrType) → has_bit others rtype ≡ (has_bit all rtype && not (has_bit one rtype))) → (rtype : RrType) → has_bit others rtype ≡ but_cname rtype
 others_than all one others is_all is_one minus rtype =
-    minus rtype ∙ (ap (λ b. b && not (has_bit one rtype)) (is_all rtype) ∙ ap not (is_one rtype ∙ same_truth (type_eq rr.Cname rtype) (type_eq rtype rr.Cname) (turned rr.Cname rtype) (turned rtype rr.Cname)))
+    minus rtype
+    ∙ (ap (λ b. b && not (has_bit one rtype)) (is_all rtype)
+    ∙ ap not (is_one rtype ∙ same_truth (type_eq rr.Cname rtype) (type_eq rtype rr.Cname) (turned rr.Cname rtype) (turned rtype rr.Cname)))
   where
     turned : (a b : RrType) → type_eq a b ≡ true → type_eq b a ≡ true
     turned a b is = eq-eqb (number_of b) (number_of a) (sym (eqb-true (number_of a) (number_of b) is))

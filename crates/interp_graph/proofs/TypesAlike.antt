@@ -19,7 +19,7 @@ use Rattle.net_model.specs.declared.walk.Leaf.{Leaf}
 use Rattle.net_model.specs.declared.walk.Leaf.TheVariants.{Answer, NoData}
 use Rattle.net_model.specs.declared.walk.State.{State}
 use Rattle.interp_graph.specs.Listed.{but_cname, every}
-use Rattle.interp_graph.specs.Making.{later, typed}
+use Rattle.interp_graph.specs.Making.{firsts_behind, typed}
 
 module _ (setting : Setting) (state : State) (hop : Hop) (to : State) where
   -- where the only branch ends, none goes on
@@ -82,4 +82,4 @@ typed_rest (suc first) (suc at) behind = typed_rest first at (omega (arith, behi
 pub typed_other : (first at : ℕ) (rtype : RrType) → but_cname rtype ≡ true → typed first at rtype ≡ true
 typed_other zero zero rtype other = other
 typed_other (suc first) zero rtype other = refl
-typed_other first (suc at) rtype other = typed_other (later first) at rtype other
+typed_other first (suc at) rtype other = typed_other (firsts_behind first) at rtype other

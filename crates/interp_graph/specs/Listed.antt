@@ -1,24 +1,23 @@
 -- States that are listed one after another, each because a walk comes to it. The contracts of inner calls alone cite it.
-use Rattle.std.specs.Prelude.{◌≡◌, ℕ, ◌<◌, ◌≤◌, Bool, true, not, List, ◌++◌, length, Some, Contains, slice_get}
+use Rattle.std.specs.Prelude.{◌≡◌, ℕ, ◌<◌, ◌≤◌, Bool, true, not, List, [], ◌∷◌, ◌++◌, length, Contains}
 use Rattle.std.specs.List.{IsDistinct}
 use Rattle.dns_data.specs.RrType.{type_eq}
 use Rattle.dns_data.specs.declared.rr_type.RrType.{RrType}
 use Rattle.dns_data.specs.declared.rr_type.RrType.TheVariants as rr
-use Rattle.net_model.specs.Step.{Setting, Branch, Go}
+use Rattle.net_model.specs.Step.{Setting, Branch, Go, next}
 use Rattle.net_model.specs.declared.walk.Hop.{Hop}
 use Rattle.net_model.specs.declared.walk.State.{State}
-use Rattle.net_model.proofs.Leads.{Leads}
 use Rattle.zone_lookup.specs.Steps.{branch_of}
 use Rattle.interp_graph.specs.StateKey.{state_eq}
 use Rattle.interp_graph.specs.declared.step.Draft.{Draft}
 use Rattle.interp_graph.specs.declared.step.Draft.TheVariants as draft_as
 use Rattle.interp_graph.specs.declared.step.Fork.{Fork}
 
--- states were put behind the others, each of a kind
-pub record Adds (Is : State → Type 0) (before after : List State) : Type 0 where
-  pub more : List State
+-- items were put behind the others, each of a kind
+pub record Adds {X : Type 0} (Is : X → Type 0) (before after : List X) : Type 0 where
+  pub more : List X
   pub behind : after ≡ before ++ more
-  pub each : (state : State) → Contains more state → Is state
+  pub each : (item : X) → Contains more item → Is item
 
 -- and there are no more together than are allowed
 pub record Lists (Is : State → Type 0) (most : ℕ) (before after : List State) : Type 0 where
@@ -34,9 +33,9 @@ pub record Passes (Is : State → Type 0) (most : ℕ) (before : List State) : T
 
 -- ---- to which states steps go
 
--- a state is one of those of an item's kind
-abbrev pub OfOne : {X : Type 0} → (X → State → Type 0) → List X → State → Type 0
-OfOne {X = X} Is items state = (item : X) × Contains items item × Is item state
+-- the relation holds between one of the items and this one
+abbrev pub OfOne : {X Y : Type 0} → (X → Y → Type 0) → List X → Y → Type 0
+OfOne {X = X} Is items other = (item : X) × Contains items item × Is item other
 
 -- a branch goes on to the state
 abbrev pub StepGoes : Branch → State → Type 0
@@ -53,14 +52,17 @@ DraftGoes (draft_as.Left forks) to = OfOne ForkGoes forks to
 
 -- ---- from which states walks come
 
--- branches lead to the state from one in which the query begins
+-- with the type each state of the path leads to the one in front of it, the first of the path leads to this state, and the
+-- last is one in which the query begins
+abbrev pub ComesOver : Setting → List State → RrType → List State → State → Type 0
+ComesOver setting begin rtype [] state = Contains begin state
+ComesOver setting begin rtype (before ∷ path) state =
+    ComesOver setting begin rtype path before × (hop : Hop) × Contains (next setting rtype before) (Go hop state)
+
+-- with the type some path comes to the state from one in which the query begins
 pub record Comes (setting : Setting) (begin : List State) (rtype : RrType) (state : State) : Type 0 where
-  pub number : ℕ
-  pub first : State
-  pub is_first : slice_get begin number ≡ Some first
-  pub numbers : List ℕ
-  pub hops : List Hop
-  pub leads : Leads setting rtype first numbers hops state
+  pub path : List State
+  pub over : ComesOver setting begin rtype path state
 
 -- each type
 abbrev pub every : RrType → Bool

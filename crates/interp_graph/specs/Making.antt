@@ -12,7 +12,6 @@ use Rattle.graph_form.specs.declared.node.Arm.{Arm}
 use Rattle.graph_form.specs.declared.node.Branch.{Branch}
 use Rattle.graph_form.specs.declared.node.Branch.TheVariants.{Go, End}
 use Rattle.graph_form.specs.declared.node.Node.{Node}
-use Rattle.graph_form.proofs.Places.{PairAt}
 use Rattle.zone_lookup.specs.Alike.{AreSplit}
 use Rattle.zone_lookup.specs.Steps.{branch_of}
 use Rattle.zone_lookup.specs.declared.steps.Step.{Step}
@@ -34,9 +33,9 @@ pub record IsArmOf (states : List State) (arm : Arm) (fork : Fork) : Type 0 wher
   pub types : arm.types ≡ fork.types
   pub told : AllZip (λ branch one. TellsStep states branch (branch_of one)) arm.branches fork.steps
 
--- The node of a state that walks with some types reach, where the states before this number are those that walks of all
--- types reach: its arms are apart, have these types together, and tell the state's steps; with type CNAME they lead to the
--- first states alone.
+-- These are the arms of a state's node. No two of them have the same type, and together they have the types with which walks
+-- reach the state. For each of its types an arm tells the state's steps, in order. Walks of all types reach the states with
+-- the numbers below `first`, and an arm with type CNAME leads to such states alone.
 pub record IsNode (setting : Setting) (states : List State) (first : ℕ) (among : RrType → Bool) (arms : List Arm) (state : State) : Type 0 where
   pub split : AreSplit among (map (λ arm. arm.types) arms)
   pub tell : (arm : Arm) → Contains arms arm → (rtype : RrType) → has_bit arm.types rtype ≡ true
@@ -65,32 +64,40 @@ abbrev pub IsDraft : Setting → List State → ℕ → (RrType → Bool) → Dr
 IsDraft setting states first among (Done arms) state = IsNode setting states first among arms state
 IsDraft setting states first among (Left forks) state = AreLeft setting among forks state
 
--- each item stands beside a state, to which it is related by the state's number
-abbrev pub AreBeside : {A : Type 0} → (ℕ → A → State → Type 0) → List A → List State → Type 0
-AreBeside Is items states = (at : ℕ) → at < length items → PairAt (Is at) items states at
+-- an item and a state have this number, and are related
+pub record StandsBeside {A : Type 0} (Is : A → State → Type 0) (items : List A) (states : List State) (at : ℕ) : Type 0 where
+  pub one : A
+  pub other : State
+  pub at_one : slice_get items at ≡ Some one
+  pub at_other : slice_get states at ≡ Some other
+  pub paired : Is one other
 
--- each state has its draft, and all are reached with all types
+-- each item is related to the state with the same number, by what the number asks
+abbrev pub AreBeside : {A : Type 0} → (ℕ → A → State → Type 0) → List A → List State → Type 0
+AreBeside Is items states = (at : ℕ) → at < length items → StandsBeside (Is at) items states at
+
+-- beside each state stands the draft of its node, with all types: walks of all types reach each of the states
 pub record AreDrafts (setting : Setting) (states : List State) (drafts : List Draft) : Type 0 where
   pub all : length states ≤ length drafts
   pub beside : AreBeside (λ at. IsDraft setting states (length states) every) drafts states
 
--- the types with which walks reach the first of states, of which so many are reached with all types, and the others with all
--- but CNAME
+-- Of states in a row walks of all types reach the first ones, which are so many, and walks of all types but CNAME reach the
+-- others. These are the types with which walks reach the state at the head of the row.
 abbrev pub typed_now : ℕ → RrType → Bool
 typed_now zero = but_cname
 typed_now (suc first) = every
 
--- how many of the states behind the first one are reached with all types
-abbrev pub later : ℕ → ℕ
-later zero = zero
-later (suc first) = first
+-- of the states behind the head of the row, how many walks of all types reach
+abbrev pub firsts_behind : ℕ → ℕ
+firsts_behind zero = zero
+firsts_behind (suc first) = first
 
--- the types with which walks reach the state with this number
+-- the types with which walks reach the state with this number in the row, counted from 0
 abbrev pub typed : ℕ → ℕ → RrType → Bool
 typed first zero = typed_now first
-typed first (suc at) = typed (later first) at
+typed first (suc at) = typed (firsts_behind first) at
 
--- each state has its node
+-- beside each state stand the arms of its node, where so many of the states are reached with all types
 pub record AreNodes (setting : Setting) (states : List State) (first : ℕ) (arms : List (List Arm)) : Type 0 where
   pub all : length states ≤ length arms
   pub beside : AreBeside (λ at. IsNode setting states first (typed first at)) arms states

@@ -21,6 +21,7 @@ pub(crate) fn forks(
 ) -> Result<List<Fork>, NoMemory>
     ensures { IfOk result (AreForks walker.now state.now (has_bit types)) }
 {
+    // Not by `reply_of`: a reply whose tree isn't named here has no proof.
     match walker.hosts().nearest_of(&state.server, &state.name) {
         Some(tree) => {
             let reply = reply_in(tree, &state.name);

@@ -7,8 +7,7 @@
 //!
 //! Costs: a state is looked up once, for all types that come to it: first those that all types reach are visited, and then
 //! those that all but CNAME reach. A few states are looked through one by one, of more each is found by its hash. A state is
-//! made once, and goes from the key by which it is found into the graph; a lookup in a zone copies its name. No zone is
-//! copied, and no list of walks is made.
+//! made once, and goes from the key by which it is found into the graph. No zone is copied, and no list of walks is made.
 //!
 //! `restrict` looks nothing up and hashes nothing. It passes over the nodes of the given graph until none gains a type,
 //! and then copies each node's state and what is left of its arms. Nodes are numbered as they are found, so that mostly
