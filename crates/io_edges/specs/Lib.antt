@@ -5,3 +5,4 @@ pub mod MemoryFiles
 pub mod MemorySink
 pub mod OutSink
 pub mod NamedFiles
+pub mod Passed

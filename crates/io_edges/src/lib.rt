@@ -4,7 +4,7 @@
 //! are told after it. Where a sink tells its bytes a writing appends exactly the front that it says. A failure is
 //! answered only where the count of failures of that very file or sink rose. The forms in memory tell all from the
 //! start, and fail exactly when they are told to. Files of a disk tell a name from its first reading on; the sink over a
-//! writer tells nothing.
+//! writer tells nothing of what it took, and passed on what the writer holds.
 //!
 //! Costs: a file of a disk is read once, and its octets stay in memory as long as the source.
 #![tactic(auto)]

@@ -3,6 +3,7 @@
 ghost use Rattle.std.specs.Prelude.{◌≡◌, ◌↔◌, ◌<◌, ◌≤◌, length, take, IsTrue, IsErr, OnErr, IfOk};
 ghost use Rattle.std.specs.Io.KnownBytes.{Appends, Keeps};
 ghost use Rattle.io_edges.specs.Counts.{Rose};
+ghost use Rattle.io_edges.specs.Passed.{PassedFront};
 ghost use Rattle.io_edges.specs.MemorySink.{told_taken, room_for, refuses_next, after_write, nothing_taken};
 
 use crate::calls::Calls;
@@ -67,6 +68,8 @@ impl MemorySink {
 impl Sink for MemorySink {
     ghost taken = { told_taken };
 
+    ghost passed = { told_taken };
+
     ghost faults = { λ s. s.failures };
 
     fn write(&mut self, bytes: &[u8]) -> Result<usize, Failed>
@@ -75,6 +78,9 @@ impl Sink for MemorySink {
         ensures appends { IfOk result (λ count.
             Appends (told_taken self.old) (told_taken self.new) (take count bytes.now)) }
         ensures err { OnErr result (Keeps (told_taken self.old) (told_taken self.new)) }
+        ensures passes { IfOk result (λ count.
+            Appends (told_taken self.old) (told_taken self.new) (take count bytes.now)) }
+        ensures passes_front { OnErr result (PassedFront (told_taken self.old) (told_taken self.new) bytes.now) }
         ensures cause { OnErr result (Rose self.old.failures self.new.failures) }
         ensures never_falls { self.old.failures ≤ self.new.failures }
 

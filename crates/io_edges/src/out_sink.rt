@@ -3,6 +3,7 @@
 ghost use Rattle.std.specs.Prelude.{◌≡◌, ◌<◌, ◌≤◌, length, take, OnErr, IfOk};
 ghost use Rattle.std.specs.Io.KnownBytes.{Appends};
 ghost use Rattle.io_edges.specs.Counts.{Rose};
+ghost use Rattle.io_edges.specs.Passed.{PassedFront};
 
 use crate::counts::raise;
 use crate::failed::Failed;
@@ -11,7 +12,8 @@ use std::io::Write;
 use std::marker::Model;
 
 /// A sink that passes what it takes on to a writer, and flushes it at each call. As a sink it tells
-/// nothing of its content, since a flush may fail after the writer took a piece. Every error of the
+/// nothing of what it took, since a flush may fail after the writer took a piece. What it passed on is
+/// what the writer holds, where the writer tells it. Every error of the
 /// writer is a failure, and so is a writer that takes nothing of a piece that isn't empty.
 #[derive(Drop)]
 pub struct OutSink<W: Write> {
@@ -44,6 +46,8 @@ impl<W: Write> Sink for OutSink<W> {
 
     ghost taken = { λ _. None };
 
+    ghost passed = { λ s. s.contents };
+
     ghost faults = { λ s. s.failures };
 
     fn write(&mut self, bytes: &[u8]) -> Result<usize, Failed>
@@ -52,9 +56,10 @@ impl<W: Write> Sink for OutSink<W> {
         ensures cause { OnErr result (Rose self.old.failures self.new.failures) }
         ensures never_falls { self.old.failures ≤ self.new.failures }
 
-        // What it answers is what the writer took.
-        ensures passed_on { IfOk result (λ count.
+        // What it answers is what the writer took. After a failure the writer took a front.
+        ensures passes { IfOk result (λ count.
             Appends self.old.contents self.new.contents (take count bytes.now)) }
+        ensures passes_front { OnErr result (PassedFront self.old.contents self.new.contents bytes.now) }
     {
         match self.writer.write(bytes) {
             Ok(count) if (count > 0 || bytes.is_empty()) && self.writer.flush().is_ok() => {

@@ -2,10 +2,13 @@ pub use Rattle.dns_data.specs.Name
 pub use Rattle.dns_data.specs.Spelling
 pub use Rattle.io_edges.specs.Counts
 pub use Rattle.io_edges.specs.Files
+pub use Rattle.io_edges.specs.Passed
 pub use Rattle.config_load.specs.Load
 pub use Rattle.config_load.specs.Reading
 pub use Rattle.config_load.specs.Refusal
 pub mod Endings
 pub mod Ends
 pub mod Line
+pub mod Runs
+pub mod Text
 pub mod Writing

@@ -2,6 +2,7 @@
 use Rattle.std.specs.Prelude.{◌≡◌, ◌≢◌, ℕ, ◌⊎◌, List, [], ◌++◌, codes, Option}
 use Rattle.std.specs.Io.KnownBytes.{Appends}
 use Rattle.io_edges.specs.Counts.{Rose}
+use Rattle.io_edges.specs.Passed.{PassedFront}
 use Rattle.run_endings.specs.declared.ending.Ending.{Ending}
 use Rattle.run_endings.specs.declared.status.Status.TheVariants.{WriteFault}
 use Rattle.run_endings.specs.Endings.{without_output}
@@ -29,3 +30,15 @@ abbrev pub IsLeft : Ending → Option (List ℕ) → Option (List ℕ) → ℕ �
 IsLeft ending before after failed_before failed_after left =
     ((left ≡ ending) × Appends before after ending.out)
     ⊎ ((left ≡ output_failed) × Rose failed_before failed_after × TookProperFront before after ending.out)
+
+-- a sink passed on a whole text; or its count rose, and it passed on a front of it
+abbrev pub PassedLine : Option (List ℕ) → Option (List ℕ) → ℕ → ℕ → List ℕ → Type 0
+PassedLine before after failed_before failed_after text =
+    Appends before after text ⊎ (Rose failed_before failed_after × PassedFront before after text)
+
+-- What out passed on of a run that is to end so, and how the run is left: as it is to end, where out passed on the whole
+-- text; or out's count rose, and out passed on a front of the text.
+abbrev pub IsPassedOn : Ending → Option (List ℕ) → Option (List ℕ) → ℕ → ℕ → Ending → Type 0
+IsPassedOn ending before after failed_before failed_after left =
+    ((left ≡ ending) × Appends before after ending.out)
+    ⊎ ((left ≡ output_failed) × Rose failed_before failed_after × PassedFront before after ending.out)

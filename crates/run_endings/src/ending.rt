@@ -1,6 +1,7 @@
 //! How a run ends, before anything is written.
 
 ghost use Rattle.std.specs.Prelude.{◌≡◌, ◌⊎◌, ◌++◌, ℕ, List, codes, decimal, IfOk};
+ghost use Rattle.std.specs.List.{flat_map};
 ghost use Rattle.dns_data.specs.Spelling.{name_text};
 ghost use Rattle.config_load.specs.Refusal.{fields_line};
 ghost use Rattle.config_load.specs.FileName.{shown_file};
@@ -9,8 +10,9 @@ ghost use Rattle.run_endings.specs.Ends.{IsNotLoaded};
 
 use crate::line::EndingLine;
 use crate::status::Status;
+use crate::text::OutText;
 use config_load::{LoadFault, shown_file};
-use dns_data::{Name, NoMemory, Octets, Text};
+use dns_data::{List, Name, NoMemory, Octets, Text};
 use itoa::Buffer;
 use std::alloc::Global;
 
@@ -18,7 +20,7 @@ use std::alloc::Global;
 #[derive(Debug, Drop)]
 pub struct Ending {
     pub status: Status,
-    pub out: Octets,
+    pub out: OutText,
     pub err: EndingLine,
 }
 
@@ -28,12 +30,29 @@ impl Ending {
         ensures { (said : List ℕ) → IfOk text (λ out. out ≡ said) → (result ≡ endings.with_output status said) ⊎ (result ≡ endings.no_memory) }
     {
         match text {
-            Ok(out) => Ending {
-                status,
-                out,
-                err: EndingLine::fixed(""),
-            },
+            Ok(out) => Ending::with_output(status, OutText::whole(out)),
             Err(NoMemory) => Ending::no_memory(),
+        }
+    }
+
+    /// A text of pieces for out and no line, unless memory ran out for the text.
+    pub fn in_pieces(status: Status, pieces: Result<List<Octets>, NoMemory>) -> Ending
+        ensures { (said : List ℕ) → IfOk pieces (λ out. flat_map (λ piece. piece) out ≡ said) → (result ≡ endings.with_output status said) ⊎ (result ≡ endings.no_memory) }
+    {
+        match pieces {
+            Ok(pieces) => Ending::with_output(status, OutText::of_pieces(pieces)),
+            Err(NoMemory) => Ending::no_memory(),
+        }
+    }
+
+    /// A text for out and no line.
+    fn with_output(status: Status, out: OutText) -> Ending
+        ensures { result ≡ endings.with_output status out }
+    {
+        Ending {
+            status,
+            out,
+            err: EndingLine::fixed(""),
         }
     }
 
@@ -43,7 +62,7 @@ impl Ending {
     {
         Ending {
             status,
-            out: Octets::new(),
+            out: OutText::none(),
             err,
         }
     }

@@ -8,8 +8,10 @@ mod ending;
 mod line;
 mod output;
 mod status;
+mod text;
 
 pub use ending::{Ending, more_than, refusal_line};
 pub use line::EndingLine;
-pub use output::{tell, write_all};
+pub use output::{tell, tell_no_memory, write_all, write_text};
 pub use status::Status;
+pub use text::OutText;

@@ -1,0 +1,3 @@
+pub mod OneReading
+pub mod Written
+mod Pieces
