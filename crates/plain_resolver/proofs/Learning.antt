@@ -1,19 +1,14 @@
 -- What is learnt in rounds.
-use Rattle.std.proofs.Common.{◌≡◌, ◌↔◌, ℕ, zero, suc, ◌+◌, ◌<◌, ◌≤◌, Bool, true, cond, List, [], ◌∷◌, ◌++◌, map, take, drop, length, get_or, filter, Contains, sym, ap, ◌∙◌, subst, inl, inr, arith}
-use Rattle.std.specs.Prelude.{if◌then◌else◌}
+use Rattle.std.proofs.Common.{◌≡◌, ◌↔◌, ℕ, zero, suc, ◌+◌, ◌≤◌, Bool, true, List, subst, inl, inr, arith}
 use Rattle.std.proofs.lemmas.Bool.{cases_lt}
-use Rattle.std.proofs.lemmas.List.{take_more, drop_more, map-append, take-append-drop}
-use Rattle.std.proofs.lemmas.List.Elements.{filter-append, Contains-append_cases}
 use Rattle.dns_data.specs.Name.{Labels}
-use Rattle.dns_data.proofs.Membership.{none_in_nil, first_or_later}
 use Rattle.dns_data.proofs.Searches.{same_truth}
 use Rattle.net_model.specs.declared.config.Config.{Config}
-use Rattle.net_model.specs.declared.config.Server.{Server}
 use Rattle.net_model.specs.Learnt.{Learns, IsRound, AfterRounds}
 use Rattle.net_model.specs.Step.{following}
 use Rattle.net_model.proofs.LearntSets.{one_after_rounds}
 use Rattle.net_model.proofs.RoundsExist.{learns_decided}
-use Rattle.plain_resolver.specs.Passed.{HasTooMany, NoneHasTooMany, NoneInRounds, IsFirstToPass}
+use Rattle.plain_resolver.specs.Passed.{NoneHasTooMany, NoneInRounds}
 
 -- whether an address of a name is learnt while some servers are followed
 pub test_while : Config → ℕ → List Labels → Labels → Bool
@@ -80,53 +75,3 @@ all_more config rewrites most begin followed rounds total none after few same =
           let there = stays config rewrites begin followed same rounds before (omega arith) after in
           subst (NoneHasTooMany config rewrites most) (one_after_rounds config rewrites before begin followed other there is) few)
     ]
-
--- ---- the servers of a round one by one
-
-module _ (config : Config) (rewrites most : ℕ) (followed : List Labels) (servers : List Server) (index : ℕ) (server : Server)
-    (within : index < length servers) (is : server ≡ get_or servers index server) where
-  -- the names up to this one
-  names_more : map (λ (s : Server). s.name) (take (index + 1) servers) ≡ map (λ (s : Server). s.name) (take index servers) ++ server.name ∷ []
-  names_more =
-      ap (map (λ (s : Server). s.name)) (take_more servers index server within ∙ ap (λ (s : Server). take index servers ++ s ∷ []) (sym is))
-      ∙ map-append (λ (s : Server). s.name) (take index servers) (server ∷ [])
-
-  -- the names learnt in a round up to the next server are those before and the next one, if the test says so
-  pub learnt_more : (learnt new : List Labels) (test : Bool) → learnt ≡ filter (test_while config rewrites followed) (map (λ (s : Server). s.name) (take index servers))
-      → (test ≡ true) ↔ Learns (following config rewrites followed) server.name → new ≡ learnt ++ (if test then server.name ∷ [] else [])
-      → new ≡ filter (test_while config rewrites followed) (map (λ (s : Server). s.name) (take (index + 1) servers))
-  learnt_more learnt new test before tells put =
-      let f = test_while config rewrites followed in
-      put
-      ∙ ap (λ (b : Bool). learnt ++ cond b (server.name ∷ []) []) (sym (test_is config rewrites followed server.name test tells))
-      ∙ ap (λ (names : List Labels). names ++ cond (f server.name) (server.name ∷ []) []) before
-      ∙ sym (ap (filter f) names_more ∙ filter-append f (map (λ (s : Server). s.name) (take index servers)) (server.name ∷ []))
-
-  -- no server's name up to the next has too many walks, if none before has nor the next one
-  pub few_more : ((name : Labels) → Contains (map (λ (s : Server). s.name) (take index servers)) name → HasTooMany config rewrites most followed name → ⊥)
-      → (HasTooMany config rewrites most followed server.name → ⊥)
-      → (name : Labels) → Contains (map (λ (s : Server). s.name) (take (index + 1) servers)) name → HasTooMany config rewrites most followed name → ⊥
-  few_more before here name among many =
-      elim (Contains-append_cases (map (λ (s : Server). s.name) (take index servers)) (server.name ∷ []) name (subst (λ (names : List Labels). Contains names name) names_more among)) [
-        | inl earlier ↦ before name earlier many
-        | inr last ↦ elim (first_or_later server.name [] name last) [
-          | inl same ↦ here (subst (HasTooMany config rewrites most followed) (sym same) many)
-          | inr none ↦ absurd (none_in_nil name none)
-        ]
-      ]
-
-  -- the next server's name is the first with too many walks, if none before has too many and it has
-  pub first_to_pass : servers ≡ config.servers → ((name : Labels) → Contains (map (λ (s : Server). s.name) (take index servers)) name → HasTooMany config rewrites most followed name → ⊥)
-      → HasTooMany config rewrites most followed server.name → IsFirstToPass config rewrites most followed server.name
-  first_to_pass are before many =
-      record {
-        earlier = map (λ (s : Server). s.name) (take index servers);
-        later = map (λ (s : Server). s.name) (drop (index + 1) servers);
-        splits =
-            ap (map (λ (s : Server). s.name)) (sym are ∙ sym (take-append-drop index servers)
-            ∙ ap (λ (rest : List Server). take index servers ++ rest)
-            (drop_more servers index server within ∙ ap (λ (s : Server). s ∷ drop (index + 1) servers) (sym is)))
-            ∙ map-append (λ (s : Server). s.name) (take index servers) (server ∷ drop (index + 1) servers);
-        none_has = before;
-        has = many;
-      }

@@ -1,7 +1,6 @@
 -- The walks of a query, shown one branch of a state after another.
-use Rattle.std.proofs.Common.{◌≡◌, ℕ, zero, suc, ◌+◌, ◌<◌, Bool, true, false, List, [], ◌∷◌, ◌++◌, map, length, Option, refl, sym, ap, ◌∙◌, subst, arith, length-append, append_assoc}
-use Rattle.std.specs.Prelude.{◌||◌}
-use Rattle.std.specs.List.{AllByRecursion, flat_map, fold, list_any}
+use Rattle.std.proofs.Common.{◌≡◌, ℕ, zero, suc, ◌+◌, ◌<◌, List, [], ◌∷◌, ◌++◌, map, length, Option, refl, sym, ap, ◌∙◌, subst, arith, length-append, append_assoc}
+use Rattle.std.specs.List.{AllByRecursion, flat_map, fold}
 use Rattle.std.proofs.lemmas.List.{append-nil, length-map, map-append}
 use Rattle.std.proofs.lemmas.List.Sums.{fold-append}
 use Rattle.dns_data.specs.declared.rr_type.RrType.{RrType}
@@ -9,12 +8,14 @@ use Rattle.net_model.specs.declared.walk.Hop.{Hop}
 use Rattle.net_model.specs.declared.walk.Leaf.{Leaf}
 use Rattle.net_model.specs.declared.walk.State.{State}
 use Rattle.net_model.specs.declared.walk.Walk.{Walk}
-use Rattle.net_model.specs.Step.{Setting, Branch, Go, End, next, start}
+use Rattle.net_model.specs.Step.{Setting, Branch, Go, End, next}
 use Rattle.net_model.specs.Walk.{led_on}
 use Rattle.net_model.proofs.AllWalks.{walks_by, walks_within, LeadsTo, Settled}
-use Rattle.net_model.proofs.RoundsExist.{query_settles}
 use Rattle.plain_resolver.specs.Asked.{Asked}
 use Rattle.plain_resolver.specs.Begun.{Begun, led_along, ended, states_left, walks_on}
+use Rattle.plain_resolver.specs.WalkEnds.{end_of, zone_ends_of}
+use Rattle.plain_resolver.specs.declared.walk_end.WalkEnd.{WalkEnd}
+use Rattle.plain_resolver.specs.declared.walk_end.ZoneEnd.{ZoneEnd}
 
 -- no walk is begun
 abbrev pub nothing : Begun
@@ -35,13 +36,6 @@ some_left zero setting rtype state settled = absurd settled
 some_left (suc depth) setting rtype state settled = omega arith
 
 module _ (asked : Asked) where
-  -- the states in which the query begins have walks of no more states than are left when none is begun
-  pub starts_settled : AllByRecursion (Settled (states_left asked nothing) asked.setting asked.rtype) (start asked.setting.config asked.query)
-  starts_settled =
-      let settled = query_settles asked.setting asked.rtype asked.query in
-      subst (λ (depth : ℕ). AllByRecursion (Settled depth asked.setting asked.rtype) (start asked.setting.config asked.query))
-      (let e : settled.0 ≡ states_left asked nothing = omega arith in e) settled.1
-
   module _ (begun : Begun) (state : State) (settled : Settled (states_left asked begun) asked.setting asked.rtype state) where
     -- once the state is entered one state less is left
     pub one_less_left : states_left asked begun ≡ suc (states_left asked (entered begun state))
@@ -120,15 +114,15 @@ all_listed before [] = sym (append-nil before)
 all_listed before (walk ∷ walks) = all_listed (before ++ walk ∷ []) walks ∙ append_assoc before (walk ∷ []) walks
 
 -- the list of the ends of the walks that were shown
-pub ends_listed : (before : List Leaf) (walks : List Walk)
-    → fold (λ (all : List Leaf) (walk : Walk). all ++ walk.leaf ∷ []) before walks ≡ before ++ map (λ (walk : Walk). walk.leaf) walks
+pub ends_listed : (before : List WalkEnd) (walks : List Walk)
+    → fold (λ (all : List WalkEnd) (walk : Walk). all ++ end_of walk ∷ []) before walks ≡ before ++ map end_of walks
 ends_listed before [] = sym (append-nil before)
 ends_listed before (walk ∷ walks) =
-    ends_listed (before ++ walk.leaf ∷ []) walks ∙ append_assoc before (walk.leaf ∷ []) (map (λ (w : Walk). w.leaf) walks)
+    ends_listed (before ++ end_of walk ∷ []) walks ∙ append_assoc before (end_of walk ∷ []) (map end_of walks)
 
--- whether one of the walks shown has a property, or it was seen before
-pub any_seen : (gives : Walk → Bool) (seen : Bool) (walks : List Walk) → fold (λ (b : Bool) (walk : Walk). b || gives walk) seen walks ≡ (seen || list_any gives walks)
-any_seen gives true [] = refl
-any_seen gives false [] = refl
-any_seen gives true (walk ∷ walks) = any_seen gives true walks
-any_seen gives false (walk ∷ walks) = any_seen gives (gives walk) walks
+-- the list of what the walks that were shown ask last
+pub zone_ends_listed : (before : List ZoneEnd) (walks : List Walk)
+    → fold (λ (all : List ZoneEnd) (walk : Walk). all ++ zone_ends_of walk) before walks ≡ before ++ flat_map zone_ends_of walks
+zone_ends_listed before [] = sym (append-nil before)
+zone_ends_listed before (walk ∷ walks) =
+    zone_ends_listed (before ++ zone_ends_of walk) walks ∙ append_assoc before (zone_ends_of walk) (flat_map zone_ends_of walks)

@@ -2,6 +2,9 @@ pub use Rattle.net_model.specs.Learnt
 pub use Rattle.net_model.specs.Walk
 pub mod Asked
 pub mod Begun
+pub mod FromServer
 pub mod Passed
 pub mod Shown
 pub mod Tested
+pub mod Told
+pub mod WalkEnds

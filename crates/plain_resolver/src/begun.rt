@@ -1,9 +1,12 @@
 //! Walks that have no end yet.
 
 ghost use Rattle.std.specs.Prelude.{◌≡◌, ◌++◌, ◌∷◌, [], IfOk, OnOk};
-ghost use Rattle.std.specs.Option.{option_to_list};
+ghost use Rattle.std.specs.List.{list_any};
+ghost use Rattle.std.specs.Option.{option_map, option_to_list};
 ghost use Rattle.plain_resolver.specs.Begun.{ended};
+ghost use Rattle.plain_resolver.specs.WalkEnds.{is_rewrite, last_state};
 
+use crate::walk_end::is_rewrite;
 use dns_data::{Boxed, List, NoMemory};
 use net_model::{Hop, Leaf, State, Walk};
 use std::alloc::Global;
@@ -83,6 +86,27 @@ impl BegunWalk {
         Ok(walk)
     }
 
+    /// Whether the walk is rewritten, with the hop to its end.
+    pub(crate) fn is_rewritten(&self, last: Option<Boxed<Hop>>) -> bool
+        ensures { result ≡ list_any is_rewrite (self.now.hops ++ option_to_list last) }
+    {
+        let before = some_rewrite(self.hops.as_slice());
+        match last {
+            Some(hop) => before || is_rewrite(hop.get()),
+            None => before,
+        }
+    }
+
+    /// The last state, or none before the first.
+    pub(crate) fn last_state(&self) -> Option<&State>
+        ensures { option_map (λ state. state.now) result ≡ last_state self.now.states }
+    {
+        match self.states.as_slice().last() {
+            Some(state) => Some(state.get()),
+            None => None,
+        }
+    }
+
     /// Puts copies of the states and hops into a walk, and the hop to its end.
     fn put_way(
         &self,
@@ -96,6 +120,13 @@ impl BegunWalk {
         walk.states = copied_states(alloc, self.states.as_slice())?;
         Ok(())
     }
+}
+
+/// Whether some hop is a rewrite of the name.
+fn some_rewrite(hops: &[Boxed<Hop>]) -> bool
+    ensures { result ≡ list_any is_rewrite hops.now }
+{
+    hops.iter().any(|hop| is_rewrite(hop.get()))
 }
 
 /// Copies of hops, and of the hop to the walk's end.

@@ -1,15 +1,19 @@
 //! The servers whose addresses are learnt.
 
-ghost use Rattle.std.specs.Prelude.{◌≡◌, ◌↔◌, ◌++◌, ◌∷◌, [], ℕ, List as Items, length, true, IfOk, IfSome, OnOk, IsErrOf, if◌then◌else◌};
+ghost use Rattle.std.specs.Prelude.{◌≡◌, ◌++◌, ◌∷◌, [], ℕ, List as Items, length, IfOk, IfSome, OnOk, IsErrOf, if◌then◌else◌};
+ghost use Rattle.std.specs.List.{AllByRecursion};
 ghost use Rattle.dns_data.specs.Name.{Labels};
-ghost use Rattle.net_model.specs.Learnt.{LearnsBy, Learns, IsRound, AfterRounds};
-ghost use Rattle.net_model.specs.Step.{following};
-ghost use Rattle.plain_resolver.specs.Passed.{HasMoreWalks, HasTooMany, NoneHasTooMany, NoneInRounds, IsFirstToPass, IsFirstWithTooMany};
+ghost use Rattle.net_model.specs.Learnt.{AfterRounds};
+ghost use Rattle.net_model.specs.Nearest.{server_names};
+ghost use Rattle.plain_resolver.specs.Passed.{HasTooMany, NoneInRounds, IsFirstWithTooMany};
+ghost use Rattle.plain_resolver.specs.Shown.{HasMore, ShownAll};
+ghost use Rattle.plain_resolver.specs.Told.{IsFirstOf, StaysTold, StaysUnlessNew, names_learnt, names_told, seen_after, told_of};
 ghost use Rattle.zone_lookup.specs.Resting.{Rests};
 ghost use Rattle.zone_lookup.specs.Tops.{StandsForTops};
 
 use crate::fault::{LearntFault, ResolveFault};
 use crate::resolver::Resolver;
+use crate::told::{FollowedNames, ToldName, WaitList};
 use crate::visitor::AddressSeen;
 use crate::walks::visit_walks;
 use dns_data::{List, Name, NoMemory, RrType};
@@ -56,36 +60,100 @@ pub fn learnt_at(
 {
     let config = hosts.config();
     let tops = TopServers::unlike(alloc, hosts)?;
-    let mut followed = from.copy(alloc)?;
+    let mut followed = FollowedNames::first(alloc, from.copy(alloc)?);
+    let mut tolds = never_told(alloc, config)?;
     for _round in 0..config.servers.items().len() {
-        let learnt = learnt_while(alloc, hosts, &tops, rewrites, followed.items(), most)?;
-        if learnt == followed {
-            return Ok(followed);
+        tolds = told_while(alloc, hosts, &tops, rewrites, &followed, tolds, most)?;
+        let learnt = names_learnt(alloc, tolds.items())?;
+        if learnt == followed.names {
+            return Ok(learnt);
         }
-        followed = learnt;
+        followed = FollowedNames::after(alloc, followed.names.items(), learnt)?;
     }
-    Ok(followed)
+    Ok(followed.names)
 }
 
-/// The names of the servers whose addresses can be learnt while these are followed, in the order of the servers.
-fn learnt_while(
+/// The servers' names, of which nothing was told yet.
+fn never_told(alloc: Global, config: &Config) -> Result<List<ToldName>, NoMemory>
+    ensures { IfOk result (λ tolds. names_told tolds ≡ server_names config.now) }
+{
+    let mut tolds = List::new(alloc);
+    for server in config.servers.items() {
+        tolds.push(ToldName {
+            name: server.name.copy(alloc)?,
+            learnt: false,
+            waits: WaitList::new(alloc),
+        })?;
+    }
+    Ok(tolds)
+}
+
+/// What is told of the names while these are followed, in their order, by what was told before.
+fn told_while(
     alloc: Global,
     hosts: &Hosts<'_>,
     tops: &TopServers<'_>,
     rewrites: u32,
-    followed: &[Name],
+    followed: &FollowedNames,
+    tolds: List<ToldName>,
     most: u32,
-) -> Result<List<Name>, LearntFault>
-    requires { StandsForTops hosts.now tops.now }
-    ensures round { IfOk result (λ learnt. IsRound hosts.now rewrites followed.now learnt) }
-    ensures few { OnOk result (NoneHasTooMany hosts.now rewrites most followed.now) }
-    ensures passed { (name : Labels) → IsErrOf result (LearntFault.WalksPassed name) → IsFirstToPass hosts.now rewrites most followed.now name }
+) -> Result<List<ToldName>, LearntFault>
+    requires tops { StandsForTops hosts.now tops.now }
+    requires before { AllByRecursion (StaysUnlessNew hosts.now rewrites most followed.now) tolds }
+    ensures names { IfOk result (λ now. names_told now ≡ names_told tolds) }
+    ensures told { IfOk result (AllByRecursion (StaysTold hosts.now rewrites most followed.now.names)) }
+    ensures passed { (name : Labels) → IsErrOf result (LearntFault.WalksPassed name) → IsFirstOf hosts.now rewrites most followed.now.names (names_told tolds) name }
+{
+    let mut now = List::new(alloc);
+    for told in tolds {
+        now.push(told_again(alloc, hosts, tops, rewrites, followed, told, most)?)?;
+    }
+    Ok(now)
+}
+
+/// What is told of a name while these are followed: what was told before, where nothing of what it waits for is followed
+/// newly; else it is asked for.
+fn told_again(
+    alloc: Global,
+    hosts: &Hosts<'_>,
+    tops: &TopServers<'_>,
+    rewrites: u32,
+    followed: &FollowedNames,
+    told: ToldName,
+    most: u32,
+) -> Result<ToldName, LearntFault>
+    requires tops { StandsForTops hosts.now tops.now }
+    requires before { StaysUnlessNew hosts.now rewrites most followed.now told }
+    ensures name { IfOk result (λ now. now.name ≡ told.name) }
+    ensures told { IfOk result (StaysTold hosts.now rewrites most followed.now.names) }
+    ensures passed { (other : Labels) → IsErrOf result (LearntFault.WalksPassed other) → (told.name ≡ other) × HasTooMany hosts.now rewrites most followed.now.names told.name }
+{
+    if told.waits.has_nothing_new(followed) {
+        return Ok(told);
+    }
+    let seen = asked(
+        alloc,
+        hosts,
+        tops,
+        rewrites,
+        followed.names.items(),
+        &told.name,
+        most,
+    )?;
+    Ok(ToldName {
+        name: told.name,
+        learnt: seen.gives,
+        waits: seen.waits,
+    })
+}
+
+/// The names of those that were told to be learnt, in their order.
+fn names_learnt(alloc: Global, tolds: &[ToldName]) -> Result<List<Name>, NoMemory>
+    ensures { IfOk result (λ learnt. learnt ≡ names_learnt tolds.now) }
 {
     let mut learnt = List::new(alloc);
-    for server in hosts.config().servers.items() {
-        let name = &server.name;
-        let is_learnt = learns(alloc, hosts, tops, rewrites, followed, name, most)?;
-        put_if(alloc, &mut learnt, &server.name, is_learnt)?;
+    for told in tolds {
+        put_if(alloc, &mut learnt, &told.name, told.learnt)?;
     }
     Ok(learnt)
 }
@@ -100,9 +168,9 @@ fn put_if(alloc: Global, names: &mut List<Name>, name: &Name, is_put: bool) -> R
     Ok(())
 }
 
-/// Whether an address of the name can be learnt. It is `WalksPassed` with the name where it has more than `most` walks of
-/// type A or of type AAAA. No walk is looked at where it is seen at once that the name rests, and it has no more.
-fn learns(
+/// What is seen of the name while these are followed. It is `WalksPassed` with the name where it has more than `most` walks
+/// of type A or of type AAAA. No walk is looked at where it is seen at once that the name rests, and it has no more.
+fn asked(
     alloc: Global,
     hosts: &Hosts<'_>,
     tops: &TopServers<'_>,
@@ -110,15 +178,14 @@ fn learns(
     followed: &[Name],
     name: &Name,
     most: u32,
-) -> Result<bool, LearntFault>
+) -> Result<AddressSeen, LearntFault>
     requires { StandsForTops hosts.now tops.now }
-    ensures learns { IfOk result (λ learns. (learns ≡ true) ↔ Learns (following hosts.now rewrites followed.now) name.now) }
-    ensures few { OnOk result (HasTooMany hosts.now rewrites most followed.now name.now → ⊥) }
+    ensures told { IfOk result (λ seen. StaysTold hosts.now rewrites most followed.now (told_of name.now seen)) }
     ensures passed { (other : Labels) → IsErrOf result (LearntFault.WalksPassed other) → (name.now ≡ other) × HasTooMany hosts.now rewrites most followed.now name.now }
 {
     match learnt_within(alloc, hosts, tops, name, most)? {
-        Some(learnt) => Ok(learnt),
-        None => learns_by_walks(alloc, hosts, rewrites, followed, name, most),
+        Some(learnt) => Ok(AddressSeen::new(alloc, learnt)),
+        None => seen_by_walks(alloc, hosts, rewrites, followed, name, most),
     }
 }
 
@@ -141,45 +208,44 @@ fn learnt_within(
     learnt_at_tops(alloc, hosts, tops, name)
 }
 
-/// Whether an address of the name can be learnt, by its walks. It is `WalksPassed` with the name where it has more than
-/// `most` walks of type A or of type AAAA.
-fn learns_by_walks(
+/// What is seen of the name by its walks of type A and of type AAAA. It is `WalksPassed` with the name where it has more
+/// than `most` of either.
+fn seen_by_walks(
     alloc: Global,
     hosts: &Hosts<'_>,
     rewrites: u32,
     followed: &[Name],
     name: &Name,
     most: u32,
-) -> Result<bool, LearntFault>
-    ensures learns { IfOk result (λ learns. (learns ≡ true) ↔ Learns (following hosts.now rewrites followed.now) name.now) }
-    ensures few { OnOk result (HasTooMany hosts.now rewrites most followed.now name.now → ⊥) }
+) -> Result<AddressSeen, LearntFault>
+    ensures told { IfOk result (λ seen. StaysTold hosts.now rewrites most followed.now (told_of name.now seen)) }
     ensures passed { (other : Labels) → IsErrOf result (LearntFault.WalksPassed other) → (name.now ≡ other) × HasTooMany hosts.now rewrites most followed.now name.now }
 {
-    let four = learns_by(alloc, hosts, rewrites, followed, name, RrType::A, most)?;
-    let six = learns_by(alloc, hosts, rewrites, followed, name, RrType::Aaaa, most)?;
-    Ok(four || six)
+    let mut seen = AddressSeen::new(alloc, false);
+    let four = Resolver::new(hosts, rewrites, followed, name, RrType::A);
+    see_walks(alloc, &four, most, &mut seen)?;
+    let six = Resolver::new(hosts, rewrites, followed, name, RrType::Aaaa);
+    see_walks(alloc, &six, most, &mut seen)?;
+    Ok(seen)
 }
 
-/// Whether a walk of the name with this type gives an address. It is `WalksPassed` with the name where there are more than
-/// `most`. The walks are counted and looked at, and none is made.
-fn learns_by(
+/// Looks at the walks of a query. It is `WalksPassed` with its name where there are more than `most`. The walks are counted
+/// and looked at, and none is made.
+fn see_walks(
     alloc: Global,
-    hosts: &Hosts<'_>,
-    rewrites: u32,
-    followed: &[Name],
-    name: &Name,
-    t: RrType,
+    resolver: &Resolver<'_, '_>,
     most: u32,
-) -> Result<bool, LearntFault>
-    ensures learns { IfOk result (λ learns. (learns ≡ true) ↔ LearnsBy (following hosts.now rewrites followed.now) name.now t) }
-    ensures few { OnOk result (HasMoreWalks (following hosts.now rewrites followed.now) name.now t most → ⊥) }
-    ensures passed { (other : Labels) → IsErrOf result (LearntFault.WalksPassed other) → (name.now ≡ other) × HasMoreWalks (following hosts.now rewrites followed.now) name.now t most }
+    seen: &mut AddressSeen,
+) -> Result<(), LearntFault>
+    ensures shown { OnOk result (ShownAll seen_after resolver.now seen.old seen.new) }
+    ensures few { OnOk result (HasMore resolver.now most → ⊥) }
+    ensures passed { (other : Labels) → IsErrOf result (LearntFault.WalksPassed other) → (resolver.now.query ≡ other) × HasMore resolver.now most }
 {
-    let resolver = Resolver::new(hosts, rewrites, followed, name, t);
-    let mut address = AddressSeen::new();
-    match visit_walks(alloc, &resolver, most, &mut address) {
-        Ok(()) => Ok(address.seen()),
-        Err(ResolveFault::WalksPassed) => Err(LearntFault::WalksPassed(name.copy(alloc)?)),
+    match visit_walks(alloc, resolver, most, seen) {
+        Ok(()) => Ok(()),
+        Err(ResolveFault::WalksPassed) => Err(LearntFault::WalksPassed(
+            resolver.query().copy(alloc)?,
+        )),
         Err(ResolveFault::NoMemory) => Err(LearntFault::NoMemory),
     }
 }

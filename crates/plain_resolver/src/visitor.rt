@@ -1,11 +1,14 @@
 //! What is shown the walks of a query.
 
-ghost use Rattle.std.specs.Prelude.{◌≡◌, ◌||◌, ◌++◌, ◌∷◌, [], false, OnOk};
-ghost use Rattle.net_model.specs.Learnt.{gives_address};
+ghost use Rattle.std.specs.Prelude.{◌≡◌, ◌++◌, ◌∷◌, [], OnOk};
 ghost use Rattle.net_model.specs.declared.walk.Walk.{Walk};
 ghost use Rattle.plain_resolver.specs.Begun.{ended};
+ghost use Rattle.plain_resolver.specs.Told.{no_waits, seen_after};
+ghost use Rattle.plain_resolver.specs.WalkEnds.{end_of, zone_ends_of};
 
 use crate::begun::BegunWalk;
+use crate::told::WaitList;
+use crate::walk_end::{WalkEnd, ZoneEnd, is_authoritative};
 use dns_data::{Boxed, List, NoMemory};
 use net_model::{Hop, Leaf, Walk};
 use std::alloc::Global;
@@ -43,18 +46,43 @@ impl WalkVisitor for List<Walk> {
     }
 }
 
-/// The list of the ends of the walks that were shown. No walk is made for that.
-impl WalkVisitor for List<Leaf> {
-    ghost after = { λ leaves walk. leaves ++ walk.leaf ∷ [] };
+/// The list of the ends of the walks that were shown, each with whether it is rewritten. No walk is made for that.
+impl WalkVisitor for List<WalkEnd> {
+    ghost after = { λ ends walk. ends ++ end_of walk ∷ [] };
 
     fn visit(
         &mut self,
         alloc: Global,
-        _begun: &BegunWalk,
+        begun: &BegunWalk,
+        hop: Option<Boxed<Hop>>,
+        leaf: Boxed<Leaf>,
+    ) -> Result<(), NoMemory> {
+        let leaf = leaf.get().copy(alloc)?;
+        let rewritten = begun.is_rewritten(hop);
+        self.push(WalkEnd { leaf, rewritten })
+    }
+}
+
+/// The list of what the walks ask last that were shown and end in what a zone tells. No walk is made for that.
+impl WalkVisitor for List<ZoneEnd> {
+    ghost after = { λ ends walk. ends ++ zone_ends_of walk };
+
+    fn visit(
+        &mut self,
+        alloc: Global,
+        begun: &BegunWalk,
         _hop: Option<Boxed<Hop>>,
         leaf: Boxed<Leaf>,
     ) -> Result<(), NoMemory> {
-        self.push(leaf.get().copy(alloc)?)
+        let Some(state) = begun.last_state() else {
+            return Ok(());
+        };
+        if !is_authoritative(leaf.get()) {
+            return Ok(());
+        }
+        let server = state.server.copy(alloc)?;
+        let name = state.name.copy(alloc)?;
+        self.push(ZoneEnd { server, name })
     }
 }
 
@@ -73,47 +101,48 @@ impl WalkVisitor for () {
     }
 }
 
-/// Whether a walk that was shown gives an address. No walk is made for that.
+/// What was seen of the walks that were shown: whether one gives an address, and at which name servers some end since no
+/// address of them is known. No walk is made for that.
 #[derive(Debug, Drop)]
 pub(crate) struct AddressSeen {
-    seen: bool,
+    pub(crate) gives: bool,
+    pub(crate) waits: WaitList,
 }
 
 impl Model for AddressSeen {
-    ghost use Rattle.std.specs.Prelude.{Bool};
+    ghost use Rattle.plain_resolver.specs.Told.{Seen};
 
-    ghost Value = { Bool };
+    ghost Value = { Seen };
 
-    ghost view = { λ address. address.seen };
+    ghost view = { λ seen. record { gives = seen.gives; waits = seen.waits } };
 }
 
 impl AddressSeen {
-    /// No walk was shown.
-    pub(crate) fn new() -> AddressSeen
-        ensures { result ≡ false }
+    /// What is seen without a walk: whether there is an address, and that nothing is waited for.
+    pub(crate) fn new(alloc: Global, gives: bool) -> AddressSeen
+        ensures { result ≡ record { gives = gives; waits = no_waits } }
     {
-        AddressSeen { seen: false }
-    }
-
-    /// Whether one gives an address.
-    pub(crate) fn seen(&self) -> bool
-        ensures { result ≡ self.now }
-    {
-        self.seen
+        AddressSeen {
+            gives,
+            waits: WaitList::new(alloc),
+        }
     }
 }
 
 impl WalkVisitor for AddressSeen {
-    ghost after = { λ seen walk. seen || gives_address walk.leaf };
+    ghost after = { seen_after };
 
     fn visit(
         &mut self,
-        _alloc: Global,
+        alloc: Global,
         _begun: &BegunWalk,
         _hop: Option<Boxed<Hop>>,
         leaf: Boxed<Leaf>,
     ) -> Result<(), NoMemory> {
-        self.seen = self.seen || gives_address(leaf.get());
+        if let Leaf::NoAddress(ns) = leaf.get() {
+            self.waits.put(alloc, ns)?;
+        }
+        self.gives = self.gives || gives_address(leaf.get());
         Ok(())
     }
 }

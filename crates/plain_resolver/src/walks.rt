@@ -1,24 +1,28 @@
 //! All walks of a query.
 
 ghost use Rattle.std.specs.Prelude.{◌≡◌, ◌+◌, ◌<◌, List as Walks, map, length, IfOk, OnOk, IsErrOf};
-ghost use Rattle.std.specs.List.{fold};
+ghost use Rattle.std.specs.List.{flat_map, fold};
+ghost use Rattle.std.specs.Option.{option_map};
 ghost use Rattle.net_model.specs.Step.{following};
 ghost use Rattle.net_model.specs.Walk.{AreWalks};
 ghost use Rattle.net_model.specs.declared.walk.Walk.{Walk as WalkValue};
 ghost use Rattle.net_model.proofs.AllWalks.{Settled};
 ghost use Rattle.plain_resolver.specs.Begun.{ended, led_along, states_left, walks_on};
+ghost use Rattle.plain_resolver.specs.FromServer.{AreAsked, HasMoreAsked};
 ghost use Rattle.plain_resolver.specs.Passed.{HasMoreWalks};
-ghost use Rattle.plain_resolver.specs.Shown.{ShownAll};
+ghost use Rattle.plain_resolver.specs.Shown.{HasMore, ShownAll};
+ghost use Rattle.plain_resolver.specs.WalkEnds.{end_of, zone_ends_of};
 
 use crate::begun::BegunWalk;
 use crate::fault::ResolveFault;
 use crate::resolver::Resolver;
 use crate::steps::steps_of;
 use crate::visitor::WalkVisitor;
+use crate::walk_end::{WalkEnd, ZoneEnd};
 use dns_data::{Boxed, List, Name, RrType};
 use net_model::{Config, Hop, Leaf, State, Walk};
 use std::alloc::Global;
-use zone_lookup::{Hosts, Step, starts};
+use zone_lookup::{Hosts, Step, Walker};
 
 /// All walks of the query in order, while these servers are followed. It is `WalksPassed` where there are more than
 /// `most`; no more than `most` are made.
@@ -61,9 +65,9 @@ pub fn resolve_at(
     Ok(walks)
 }
 
-/// The ends of all walks of the query in order, while these servers are followed. It is `WalksPassed` where there are more
-/// than `most`. No walk is made, and no more than `most` ends are.
-pub fn leaves_at(
+/// The ends of all walks of the query in order, each with whether the walk is rewritten, while these servers are followed.
+/// It is `WalksPassed` where there are more than `most`. No walk is made, and no more than `most` ends are.
+pub fn ends_at(
     alloc: Global,
     hosts: &Hosts<'_>,
     rewrites: u32,
@@ -71,15 +75,36 @@ pub fn leaves_at(
     name: &Name,
     t: RrType,
     most: u32,
-) -> Result<List<Leaf>, ResolveFault>
-    ensures leaves { IfOk result (λ leaves. (walks : Walks WalkValue) × AreWalks (following hosts.now rewrites followed.now) name.now t walks × (leaves ≡ map (λ walk. walk.leaf) walks)) }
+) -> Result<List<WalkEnd>, ResolveFault>
+    ensures ends { IfOk result (λ ends. (walks : Walks WalkValue) × AreWalks (following hosts.now rewrites followed.now) name.now t walks × (ends ≡ map end_of walks)) }
     ensures few { OnOk result (HasMoreWalks (following hosts.now rewrites followed.now) name.now t most → ⊥) }
     ensures passed { IsErrOf result ResolveFault.WalksPassed → HasMoreWalks (following hosts.now rewrites followed.now) name.now t most }
 {
     let resolver = Resolver::new(hosts, rewrites, followed, name, t);
-    let mut leaves = List::new(alloc);
-    visit_walks(alloc, &resolver, most, &mut leaves)?;
-    Ok(leaves)
+    let mut ends = List::new(alloc);
+    visit_walks(alloc, &resolver, most, &mut ends)?;
+    Ok(ends)
+}
+
+/// What the walks of a name ask last that end in what a zone tells, in order: the server, and the name for which it is asked
+/// there. The walks begin at the top servers, or at the server that is named, in the state in which it looks the name up,
+/// with no rewrite used. It is `WalksPassed` where there are more than `most` walks. None is made.
+pub fn zone_ends(
+    alloc: Global,
+    walker: Walker<'_, '_>,
+    server: Option<&Name>,
+    name: &Name,
+    t: RrType,
+    most: u32,
+) -> Result<List<ZoneEnd>, ResolveFault>
+    ensures ends { IfOk result (λ ends. (walks : Walks WalkValue) × AreAsked walker.entry name.now t (option_map (λ one. one.now) server.entry) walks × (ends ≡ flat_map zone_ends_of walks)) }
+    ensures few { OnOk result (HasMoreAsked walker.entry name.now t (option_map (λ one. one.now) server.entry) most → ⊥) }
+    ensures passed { IsErrOf result ResolveFault.WalksPassed → HasMoreAsked walker.entry name.now t (option_map (λ one. one.now) server.entry) most }
+{
+    let resolver = Resolver::of(walker, server, name, t);
+    let mut ends = List::new(alloc);
+    visit_walks(alloc, &resolver, most, &mut ends)?;
+    Ok(ends)
 }
 
 /// Counts the walks of the query while these servers are followed. It is `WalksPassed` where there are more than `most`;
@@ -100,7 +125,7 @@ pub fn count_walks(
     visit_walks(alloc, &resolver, most, &mut ())
 }
 
-/// Shows a visitor all walks of the query in order, or tells that there are more than `most`; no more than `most` are
+/// Shows a visitor all walks that are asked for in order, or tells that there are more than `most`; no more than `most` are
 /// shown.
 pub(crate) fn visit_walks<V: WalkVisitor>(
     alloc: Global,
@@ -109,12 +134,12 @@ pub(crate) fn visit_walks<V: WalkVisitor>(
     visitor: &mut V,
 ) -> Result<(), ResolveFault>
     ensures shown { OnOk result (ShownAll V.after resolver.now visitor.old visitor.new) }
-    ensures few { OnOk result (HasMoreWalks resolver.now.setting resolver.now.query resolver.now.rtype most → ⊥) }
-    ensures passed { IsErrOf result ResolveFault.WalksPassed → HasMoreWalks resolver.now.setting resolver.now.query resolver.now.rtype most }
+    ensures few { OnOk result (HasMore resolver.now most → ⊥) }
+    ensures passed { IsErrOf result ResolveFault.WalksPassed → HasMore resolver.now most }
 {
     let mut begun = BegunWalk::new(alloc);
     let mut room = most;
-    for state in starts(alloc, resolver.walker().hosts(), resolver.query())? {
+    for state in resolver.begins(alloc)? {
         visit_from(alloc, resolver, state, &mut begun, &mut room, visitor)?;
     }
     Ok(())

@@ -7,7 +7,7 @@ use Rattle.std.proofs.lemmas.List.Elements.{Contains-append_cases, Contains-appe
 use Rattle.dns_data.specs.Name.{Labels, is_prefix, is_among}
 use Rattle.dns_data.specs.declared.rr_type.RrType.{RrType}
 use Rattle.dns_data.proofs.Membership.{none_in_nil, flat_map_has, from_flat_map}
-use Rattle.graph_form.specs.EndFaults.{if_picked, is_of_end, walk_fault}
+use Rattle.graph_form.specs.EndFaults.{if_picked, is_of_end, is_shown, walk_fault}
 use Rattle.graph_form.specs.Trails.{ZonesShow}
 use Rattle.graph_form.proofs.EndsShown.{is_picked, picked_is}
 use Rattle.graph_form.proofs.ShownKinds.{end_tells, end_told}
@@ -28,7 +28,7 @@ use Rattle.zone_lookup.specs.ReferralFaults.{cut_faults, hop_faults}
 use Rattle.zone_lookup.proofs.ReferralParts.{each_part, from_cut, has_cyclic, has_differs, has_no_glue, has_other_glue, in_cut}
 use Rattle.zone_lookup.proofs.ZonesTell.{cyclic_told, differ_told, glue_told, other_addresses, told_addresses, told_cyclic, told_differ, told_glue}
 use Rattle.report_check.specs.Entries.{HasLearntNames}
-use Rattle.report_check.specs.WalkFaults.{is_shown, walk_faults}
+use Rattle.report_check.specs.WalkFaults.{walk_faults}
 use Rattle.report_check.proofs.HopsInside.{refers_inside}
 
 module _ (setting : Setting) (deps : Deps) (learnt : HasLearntNames setting.config setting.rewrites deps) where

@@ -1,8 +1,8 @@
 //! The faults that one walk shows by itself.
 
 ghost use Rattle.std.specs.Prelude.{◌≡◌, ◌++◌, IfOk, OnOk};
-ghost use Rattle.graph_form.specs.EndFaults.{fault_of, if_picked, walk_fault};
-ghost use Rattle.report_check.specs.WalkFaults.{is_shown, walk_faults};
+ghost use Rattle.graph_form.specs.EndFaults.{fault_of, if_picked, is_shown, walk_fault};
+ghost use Rattle.report_check.specs.WalkFaults.{walk_faults};
 ghost use Rattle.zone_lookup.specs.ReferralFaults.{hop_faults};
 
 use dns_data::{List, NoMemory};

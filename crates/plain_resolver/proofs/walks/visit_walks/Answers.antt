@@ -1,31 +1,27 @@
-use Rattle.std.proofs.Common.{◌≡◌, ◌+◌, ◌∷◌, List, map, length, refl, sym, ap, ◌∙◌, subst, arith, rules}
+use Rattle.std.proofs.Common.{◌≡◌, ◌+◌, ◌∷◌, List, map, length, sym, ap, ◌∙◌, subst, arith, rules}
 use Rattle.std.specs.List.{AllByRecursion, flat_map, fold}
 use Rattle.std.proofs.lemmas.List.{length-append}
 use Rattle.std.proofs.lemmas.List.Sums.{fold-append}
-use Rattle.net_model.specs.declared.config.Config.{Config}
 use Rattle.net_model.specs.declared.walk.State.{State}
 use Rattle.net_model.specs.declared.walk.Walk.{Walk}
-use Rattle.net_model.specs.Step.{Setting, start}
 use Rattle.net_model.proofs.AllWalks.{Settled}
+use Rattle.plain_resolver.specs.Asked.{begins}
 use Rattle.plain_resolver.specs.Begun.{Begun, led_along, states_left, walks_on}
-use Rattle.net_model.proofs.WalkLists.{are_walks}
-use Rattle.plain_resolver.proofs.Resolved.{has_more, has_no_more}
-use Rattle.plain_resolver.proofs.ShownWalks.{nothing, starts_settled, along_nothing}
+use Rattle.plain_resolver.proofs.AskedWalks.{are_asked, begins_settled, has_more_asked, has_no_more_asked}
+use Rattle.plain_resolver.proofs.ShownWalks.{nothing, along_nothing}
 use Rattle.plain_resolver.proofs.walks.visit_walks.Goals as goal
 
 pub loop-state-init : goal.loop-state-init
 loop-state-init g c =
     let asked = c.args.resolver.now in
     let on = walks_on asked nothing in
-    let states : c.into_iter-state-iterator.result ≡ start asked.setting.config asked.query =
-    c.into_iter-state-iterator.ensures.into_iter_gives.0 ∙ c.in_ok-state-items.ensures
-    ∙ ap (λ (config : Config). start config c.query.result.now) (c.hosts.ensures ∙ ap (λ (setting : Setting). setting.config) c.walker.ensures)
-    ∙ ap (start asked.setting.config) c.query.ensures in
+    let states : c.into_iter-state-iterator.result ≡ begins asked.setting asked.query asked.server =
+    c.into_iter-state-iterator.ensures.into_iter_gives.0 ∙ c.in_ok-state-items.ensures in
     record {
       begun = c.new-begun.ensures;
       shown = ap (λ (left : List State). fold g.V.WalkVisitor.after c.args.visitor.now (flat_map on left)) states;
       room = ap (λ (left : List State). c.args.most + length (flat_map on left)) (sym states);
-      settled = subst (AllByRecursion (Settled (states_left asked nothing) asked.setting asked.rtype)) (sym states) (starts_settled asked);
+      settled = subst (AllByRecursion (Settled (states_left asked nothing) asked.setting asked.rtype)) (sym states) (begins_settled asked);
     }
 
 pub visit_from-requires : goal.visit_from-requires
@@ -76,7 +72,7 @@ returns-in_err-visit_from-clause-passed g c = λ is.
     let state = c.in-Some.state in
     let rest = c.next.new.self in
     let inv = c.loop-state.invariant in
-    has_more asked.setting asked.rtype (states_left asked nothing) asked.query c.args.most
+    has_more_asked asked c.args.most
     (omega (
       arith,
       inv.room,
@@ -90,10 +86,9 @@ pub returns-clause-shown : goal.returns-clause-shown
 returns-clause-shown g c =
     let after = g.V.WalkVisitor.after in
     let asked = c.args.resolver.now in
-    let on = walks_on asked nothing in
-    let total = flat_map on (start asked.setting.config asked.query) in (
-      total,
-      are_walks asked.setting asked.rtype (states_left asked nothing) asked.query total refl (starts_settled asked),
+    let on = walks_on asked nothing in (
+      flat_map on (begins asked.setting asked.query asked.server),
+      are_asked asked,
       ap (λ (states : List State). fold after c.loop-state.visitor (flat_map on states)) (sym c.in-None.ensures.steps.0) ∙ c.loop-state.invariant.shown,
     )
 
@@ -101,5 +96,5 @@ pub returns-clause-few : goal.returns-clause-few
 returns-clause-few g c =
     let asked = c.args.resolver.now in
     let on = walks_on asked nothing in
-    has_no_more asked.setting asked.rtype (states_left asked nothing) asked.query c.args.most
-    (omega (arith, c.loop-state.invariant.room, ap (λ (states : List State). length (flat_map on states)) c.in-None.ensures.steps.0)) (starts_settled asked)
+    has_no_more_asked asked c.args.most
+    (omega (arith, c.loop-state.invariant.room, ap (λ (states : List State). length (flat_map on states)) c.in-None.ensures.steps.0))
