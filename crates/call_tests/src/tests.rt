@@ -11,6 +11,7 @@ mod outputs;
 mod pool_machine;
 mod runs;
 mod site_runs;
+mod texts;
 mod values;
 mod walks;
 mod workers;

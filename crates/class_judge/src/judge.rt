@@ -8,6 +8,7 @@ ghost use Rattle.graph_form.specs.Report.{IsReport};
 ghost use Rattle.label_graph.specs.Pairs.{AreSame};
 ghost use Rattle.query_classes.proofs.TreeItems as items;
 ghost use Rattle.query_verdicts.specs.Carried.{whole_config};
+ghost use Rattle.query_verdicts.specs.Kept.{IsKeptReport};
 ghost use Rattle.query_verdicts.specs.Passed.{IsReportFault, NonePasses};
 ghost use Rattle.query_verdicts.specs.Queries.{queries_of};
 ghost use Rattle.query_verdicts.specs.Subjects.{AreOfSubject};
@@ -19,7 +20,9 @@ use graph_form::Report;
 use label_graph::LabelGraph;
 use net_model::Config;
 use query_classes::TreeName;
-use query_verdicts::{FiledVerdict, JudgeFault, NameJudge, QueryGraphs, SubjectGround, base_graph};
+use query_verdicts::{
+    FiledVerdict, JudgeFault, Kept, KeptReport, NameJudge, QueryGraphs, SubjectGround, base_graph,
+};
 use std::alloc::Global;
 use std::marker::Model;
 use verdict_book::{Filed, JudgeShare, Judged, Work};
@@ -156,5 +159,21 @@ impl<'a, N: Naming> Judge<'a, N> {
         ensures whole_fault { whole_config N.subject.config N.subject.rewrites ≡ N.subject → IfErr result (IsWholeRefusal N.subject N.states) }
     {
         self.names.report(filed)
+    }
+
+    /// What is kept of the entries of that report, with its three numbers: no more than one entry has its walks at any
+    /// time. An error comes as with `report`.
+    pub fn kept_report<
+        K: Kept + Drop,
+        W: Work<Item = TreeName<SubjectGround<OfNaming<N>>>, Verdict = FiledVerdict>,
+    >(&self, filed: List<Filed<W>>) -> Result<KeptReport<K>, JudgeFault>
+        requires whole { IsWholeTree name_cmp N.subject.below N.children_of N.verdict_of filed }
+        requires few { length filed < 2 ^ 31 }
+        ensures report { IfOk result (IsKeptReport N.subject K.kept_of) }
+        ensures none_passes { OnOk result (NonePasses N.subject N.states) }
+        ensures fault { IfErr result (IsReportFault N.subject N.states) }
+        ensures whole_fault { whole_config N.subject.config N.subject.rewrites ≡ N.subject → IfErr result (IsWholeRefusal N.subject N.states) }
+    {
+        self.names.kept_report::<K, W>(filed)
     }
 }

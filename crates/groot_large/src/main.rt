@@ -2,17 +2,14 @@
 //! the words of the command line.
 #![tactic(auto)]
 
-ghost use Rattle.std.specs.Prelude.{◌≡◌, ◌⊎◌, map};
-ghost use Rattle.std.specs.Io.KnownBytes.{Appends};
+ghost use Rattle.std.specs.Prelude.{map};
 ghost use Rattle.std.specs.String.{string_bytes};
-ghost use Rattle.io_edges.specs.Counts.{Rose};
-ghost use Rattle.groot_line.specs.Job.{job_asked};
-ghost use Rattle.run_endings.specs.declared.ending.Ending.{Ending};
-ghost use Rattle.groot_run.specs.Outcome.{NoJobReadFailed, Outcome};
+ghost use Rattle.groot_run.specs.Runs.{RunsAsAsked};
 
 use dns_data::NoMemory;
 use groot_run::{Program, Status, run_program};
 use io_edges::{DiskFiles, Files, FreeGate, OutSink, Sink, borrowed_words, command_words};
+use run_endings::tell_no_memory;
 use site_checks::{AOnly, Answering, SiteCheck};
 use std::alloc::Global;
 use std::process::ExitCode;
@@ -21,22 +18,22 @@ use std::thread::Threads;
 
 fn main(rt: HostRuntime) -> ExitCode {
     let alloc = rt.alloc();
+    let mut err = OutSink::new(rt.stderr());
     let mut sites: Vec<Box<dyn SiteCheck>> = Vec::new(alloc);
     let Ok(a_only) = Box::new(alloc, AOnly::new(alloc)) else {
-        return no_memory();
+        return no_memory(&mut err);
     };
     let Ok(answering) = Box::new(alloc, Answering::new(alloc)) else {
-        return no_memory();
+        return no_memory(&mut err);
     };
     let Ok(()) = sites.push(a_only) else {
-        return no_memory();
+        return no_memory(&mut err);
     };
     let Ok(()) = sites.push(answering) else {
-        return no_memory();
+        return no_memory(&mut err);
     };
     let mut files = DiskFiles::new(&rt);
     let mut out = OutSink::new(rt.stdout());
-    let mut err = OutSink::new(rt.stderr());
     let status = match command_words(&rt) {
         Ok(words) => run(
             &rt,
@@ -47,18 +44,18 @@ fn main(rt: HostRuntime) -> ExitCode {
             &mut err,
             sites,
         ),
-        Err(NoMemory) => Status::NoMemory,
+        Err(NoMemory) => tell_no_memory(&mut err),
     };
     ExitCode::from(status.number())
 }
 
 /// Memory ran out before the run.
-fn no_memory() -> ExitCode {
-    ExitCode::from(Status::NoMemory.number())
+fn no_memory<E: Sink>(err: &mut E) -> ExitCode {
+    ExitCode::from(tell_no_memory(err).number())
 }
 
-/// Runs the top call with these words and checks: where nothing failed, the run is the outcome of the job that the words
-/// ask of `groot-large`.
+/// Runs the top call with these words and checks: it is a run of the job that the words ask of `groot-large`, of which the
+/// output passes on exactly the text where nothing fails.
 fn run<F: Files, O: Sink, E: Sink, R: Threads + Wait + Sync>(
     rt: &R,
     alloc: Global,
@@ -68,12 +65,11 @@ fn run<F: Files, O: Sink, E: Sink, R: Threads + Wait + Sync>(
     err: &mut E,
     sites: Vec<Box<dyn SiteCheck>>,
 ) -> Status
-    ensures { NoJobReadFailed Program.GrootLarge (F.told files.new) (job_asked Program.GrootLarge (map string_bytes words.now)) (F.faults files.old) (F.faults files.new) →
-        (Rose (O.faults out.old) (O.faults out.new) → ⊥) →
-        ((ending : Ending)
-        × Outcome Program.GrootLarge (F.told files.new) (job_asked Program.GrootLarge (map string_bytes words.now)) (map (λ b. record { name = name b; held = held b; step = step b }) sites.items) ending
-        × (result ≡ ending.status) × Appends (O.taken out.old) (O.taken out.new) ending.out)
-        ⊎ (result ≡ Status.NoMemory) }
+    ensures { RunsAsAsked Program.GrootLarge (map string_bytes words.now) (map (λ b. record { name = name b; held = held b; step = step b }) sites.items)
+        (record { told_before = F.told files.old; told_after = F.told files.new; failed_before = F.faults files.old; failed_after = F.faults files.new })
+        (record { taken_before = O.taken out.old; taken_after = O.taken out.new; passed_before = O.passed out.old; passed_after = O.passed out.new; failed_before = O.faults out.old; failed_after = O.faults out.new })
+        (record { taken_before = E.taken err.old; taken_after = E.taken err.new; passed_before = E.passed err.old; passed_after = E.passed err.new; failed_before = E.faults err.old; failed_after = E.faults err.new })
+        result }
 {
     match borrowed_words(alloc, words) {
         Ok(words) => {
@@ -81,6 +77,6 @@ fn run<F: Files, O: Sink, E: Sink, R: Threads + Wait + Sync>(
             let program = Program::GrootLarge;
             run_program(rt, alloc, program, words, files, out, err, &FreeGate, sites)
         }
-        Err(NoMemory) => Status::NoMemory,
+        Err(NoMemory) => tell_no_memory(err),
     }
 }

@@ -12,6 +12,7 @@ use Rattle.dns_data.specs.declared.rr_type.RrType.{RrType}
 use Rattle.graph_form.specs.Report.{Subject}
 use Rattle.graph_form.specs.declared.report.ReportEntry.{ReportEntry}
 use Rattle.groot_line.specs.declared.fault.LineFault.{LineFault}
+use Rattle.groot_line.specs.declared.fault.LineFault.TheVariants as line_faults
 use Rattle.groot_line.specs.declared.job.Job.{Job}
 use Rattle.groot_line.specs.declared.job.Job.TheVariants as jobs
 use Rattle.groot_line.specs.declared.job.Task.{Task}
@@ -19,7 +20,7 @@ use Rattle.groot_line.specs.declared.job.Task.TheVariants as tasks
 use Rattle.groot_line.specs.declared.program.Program.{Program}
 use Rattle.groot_line.specs.Program.{usual_names}
 use Rattle.io_edges.specs.Counts.{Rose}
-use Rattle.io_edges.specs.Files.{FilesTold}
+use Rattle.io_edges.specs.Files.{FilesTold, TellsAll}
 use Rattle.net_model.specs.declared.config.Config.{Config}
 use Rattle.net_model.specs.Reading.{ground_of}
 use Rattle.query_classes.specs.Children.{IsInTree}
@@ -39,11 +40,12 @@ use Rattle.zone_maker.specs.Source.{drill_told}
 use Rattle.run_endings.specs.declared.ending.Ending.{Ending}
 use Rattle.run_endings.specs.declared.status.Status.{Status}
 use Rattle.run_endings.specs.declared.status.Status.TheVariants.{Clean, Faults, ReadFault, WriteFault}
+use Rattle.run_endings.specs.Runs.{Ends}
 use Rattle.run_endings.specs.Ends.{EndsWithout, IsNotLoaded}
 use Rattle.groot_run.specs.Counted.{EndsPast}
 use Rattle.groot_run.specs.JobEnds.{JobEnds, EndsOverConfig, EndsWithoutConfig}
 use Rattle.run_endings.specs.Endings.{OfReading, writes_nothing, no_memory}
-use Rattle.groot_run.specs.Outcome.{status_of, HasMoreNames, WithinBudgets, WithinNames, WithinStates, IsReported, Checks, ListsClasses, IsAnswerWith, Asks, IsDrilled, Drills, drill_rewrites, TellsFindings, site_rewrites, answered_to, IsRechecked, Rechecks, GivesOf, Outcome, IsEnding, JobComesTo, NoJobReadFailed, Compares, ComparesWith, HasMoreNamesInBoth, IsCompared, compared_of, told_same, HasMoreNamesAt, IsScoped, ScopesSubject, scope_of}
+use Rattle.groot_run.specs.Outcome.{status_of, HasMoreNames, WithinBudgets, WithinNames, WithinStates, IsReported, Checks, ListsClasses, IsAnswerWith, Asks, IsDrilled, Drills, drill_rewrites, TellsFindings, site_rewrites, answered_to, IsRechecked, Rechecks, GivesOf, Outcome, IsEnding, JobComesTo, JobOpensNoOther, NoJobReadFailed, Compares, ComparesWith, HasMoreNamesInBoth, IsCompared, compared_of, told_same, HasMoreNamesAt, IsScoped, ScopesSubject, scope_of, usage}
 use Rattle.groot_run.specs.Programs.{conf_of, limits_of}
 
 -- ---- by what the files give
@@ -174,10 +176,17 @@ module _ (program : Program) (told : FilesTold) (said : Result Job LineFault) (s
       (conf_of program first files)
   of_outcome files (Err fault) ending = λ is. subst Tells (sym is) refl
 
-  module _ (job : Job) (is_job : said ≡ Ok job) (ending : Ending) (ended : JobEnds program told (Ok job) sites before after ending) where
-    ends : JobEnds program told said sites before after ending
-    ends = subst (λ (other : Result Job LineFault). JobEnds program told other sites before after ending) (sym is_job) ended
+  -- how the run of a job ends that the words ask for
+  pub with_job : (job : Job) (ending : Ending) → said ≡ Ok job → JobEnds program told (Ok job) sites before after ending → JobEnds program told said sites before after ending
+  with_job job ending is_job = subst (λ (other : Result Job LineFault). JobEnds program told other sites before after ending) (sym is_job)
 
+  -- how a run ends whose words are refused, unless memory ran out for them
+  pub with_usage : (fault : LineFault) (ending : Ending) → fault ≡ line_faults.Usage → (fault ≡ line_faults.NoMemory) ⊎ (said ≡ Err fault) → ending ≡ usage program
+      → JobEnds program told said sites before after ending
+  with_usage fault ending refused (inl ran_out) is = absurd (cc)
+  with_usage fault ending refused (inr refuses) is = inl (subst (λ (other : Result Job LineFault). Outcome program told other sites ending) (sym refuses) is)
+
+  module _ (ending : Ending) (ends : JobEnds program told said sites before after ending) where
     tells : Tells ending
     tells = by ends where
       by : JobEnds program told said sites before after ending → Tells ending
@@ -230,3 +239,18 @@ module _ (program : Program) (told : FilesTold) (said : Result Job LineFault) (s
       by (ReadFault file) says nothing = says.1
       by WriteFault says nothing = absurd says
       by other says nothing = says
+
+    -- How a job's run ends is how the run of its words ends; what was told from the start, and what else was opened, is handed
+    -- on.
+    pub as_asked : (told_before : FilesTold) → (TellsAll told_before → told ≡ told_before) → JobOpensNoOther program told_before told said
+        → Ends (λ files. Outcome program files said sites) (λ files. JobComesTo program files said)
+        (record { told_before = told_before; told_after = told; failed_before = before; failed_after = after }) ending
+    as_asked told_before from_the_start opens = record {
+      complete = complete;
+      cause = cause;
+      read_fault = read_fault;
+      no_write_fault = no_write_fault;
+      silent = silent;
+      from_the_start = from_the_start;
+      opens = opens;
+    }

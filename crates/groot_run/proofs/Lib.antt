@@ -6,6 +6,7 @@ pub mod Endings
 pub mod JudgedScopes
 pub mod HandedChecks
 pub mod JudgedTrees
+mod KeptPieces
 pub mod OneAnswer
 pub mod OneClassList
 pub mod OneEntry

@@ -12,9 +12,11 @@ pub use Rattle.groot_line.specs.Program
 pub use Rattle.site_checks.specs.Views
 pub mod ClassList
 pub mod DrillLine
+pub mod KeptText
 pub mod Laws
 pub mod Programs
 pub mod Outcome
+pub mod Runs
 pub mod Judged
 pub mod ClassRows
 pub mod Counted

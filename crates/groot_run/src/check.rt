@@ -1,16 +1,23 @@
 //! What the check of a configuration gives.
 
-ghost use Rattle.std.specs.Prelude.{◌≡◌, ◌⊎◌};
+ghost use Rattle.std.specs.Prelude.{◌≡◌, ◌⊎◌, IfOk};
+ghost use Rattle.std.specs.List.{flat_map};
+ghost use Rattle.graph_form.specs.declared.report.Report.{Report};
+ghost use Rattle.groot_run.specs.KeptText.{kept_text};
+ghost use Rattle.query_verdicts.specs.Kept.{KeepsReport};
+ghost use Rattle.report_json.specs.Report.{report_text};
 ghost use Rattle.groot_run.specs.Judged.{AreLimits};
 ghost use Rattle.run_endings.specs.Endings.{no_memory};
-ghost use Rattle.groot_run.specs.Outcome.{Checks, status_of};
+ghost use Rattle.groot_run.specs.Outcome.{Checks, reported};
 
 use crate::judging::{CheckLimits, report_of};
-use graph_form::Report;
+use crate::kept_text::{EntryText, numbers_of, status_of, texts_of};
+use dns_data::{List, NoMemory, Octets};
 use io_edges::Gate;
 use net_model::Config;
-use report_json::report_text;
-use run_endings::{Ending, Status};
+use query_verdicts::KeptReport;
+use report_json::report_pieces;
+use run_endings::Ending;
 use std::alloc::Global;
 use std::sync::Wait;
 use std::thread::Threads;
@@ -27,18 +34,26 @@ pub(crate) fn check<G: Gate + Sync, R: Threads + Wait + Sync>(
     requires { AreLimits limits }
     ensures { Checks limits.classes limits.rewrites config.now result ⊎ (result ≡ no_memory) }
 {
-    match report_of(rt, alloc, config, limits, gate) {
-        Ok(report) => Ending::written(status_of(&report), report_text(alloc, &report)),
+    match report_of::<EntryText, G, R>(rt, alloc, config, limits, gate) {
+        Ok(told) => written(alloc, told),
         Err(ending) => ending,
     }
 }
 
-/// The status of a report that is written whole.
-pub(crate) fn status_of(report: &Report) -> Status
-    ensures { result ≡ status_of report.now.entries }
+/// How a run ends with the report of which the texts of the entries are kept.
+fn written(alloc: Global, told: KeptReport<EntryText>) -> Ending
+    ensures { (report : Report) → KeepsReport kept_text told report → (result ≡ reported report) ⊎ (result ≡ no_memory) }
 {
-    match report.entries.items() {
-        [] => Status::Clean,
-        _ => Status::Faults,
-    }
+    let status = status_of(told.kept.items());
+    Ending::in_pieces(status, pieces_of(alloc, told))
+}
+
+/// The text of the report, in pieces.
+fn pieces_of(alloc: Global, told: KeptReport<EntryText>) -> Result<List<Octets>, NoMemory>
+    ensures { IfOk result (λ pieces. (report : Report) → KeepsReport kept_text told report
+        → flat_map (λ piece. piece) pieces ≡ report_text report) }
+{
+    let numbers = numbers_of(&told);
+    let texts = texts_of(alloc, told.kept)?;
+    report_pieces(alloc, numbers, texts)
 }

@@ -1,6 +1,7 @@
 //! What a drill gives.
 
 ghost use Rattle.std.specs.Prelude.{◌≡◌, ◌⊎◌, ◌<◌, ◌≤◌, ◌+◌, codes, length, min, IfOk};
+ghost use Rattle.graph_form.specs.declared.report.Report.{Report};
 ghost use Rattle.groot_run.specs.DrillLine.{drill_line, record_count, zone_records};
 ghost use Rattle.run_endings.specs.Endings.{OfReading, no_memory};
 ghost use Rattle.groot_line.specs.Program.{largest_names, usual_names};
@@ -9,15 +10,15 @@ ghost use Rattle.groot_run.specs.Programs.{conf_of};
 ghost use Rattle.io_edges.specs.Counts.{last_count};
 ghost use Rattle.zone_maker.specs.Source.{drill_told};
 
-use crate::check::status_of;
 use crate::counts::put_count;
 use crate::judging::{CheckLimits, report_of};
+use crate::kept_text::status_of;
 use crate::load::configuration;
 use dns_data::{NoMemory, Octets};
-use graph_form::Report;
 use groot_line::{Program, USUAL_REWRITES};
 use io_edges::Gate;
-use net_model::{Config, Server, Zone};
+use net_model::{Config, Fault, Server, Zone};
+use query_verdicts::KeptReport;
 use run_endings::Ending;
 use std::alloc::Global;
 use std::sync::Wait;
@@ -71,19 +72,20 @@ fn of_config<G: Gate + Sync, R: Threads + Wait + Sync>(
         classes: names,
         rewrites: USUAL_REWRITES,
     };
-    match report_of(rt, alloc, config, limits, gate) {
+    match report_of::<Fault, G, R>(rt, alloc, config, limits, gate) {
         Ok(report) => told(alloc, zones, config, &report),
         Err(ending) => ending,
     }
 }
 
 /// The end of a drill with this report.
-fn told(alloc: Global, zones: u32, config: &Config, report: &Report) -> Ending
-    ensures { (result ≡ drilled zones config.now report.now) ⊎ (result ≡ no_memory) }
+fn told(alloc: Global, zones: u32, config: &Config, told: &KeptReport<Fault>) -> Ending
+    ensures { (report : Report) → told.now.names ≡ report.names → length told.now.kept ≡ length report.entries →
+        (result ≡ drilled zones config.now report) ⊎ (result ≡ no_memory) }
 {
-    let faults = report.entries.len() as u64;
-    let line = line_of(alloc, zones, records(config), report.names, faults);
-    Ending::written(status_of(report), line)
+    let faults = told.kept.len() as u64;
+    let line = line_of(alloc, zones, records(config), told.names, faults);
+    Ending::written(status_of(told.kept.items()), line)
 }
 
 /// The line of a drill.

@@ -1,4 +1,4 @@
-//! The classes of a subject judged, and its report.
+//! The classes of a subject judged, and what is kept of its report.
 
 ghost use Rattle.std.specs.Prelude.{◌≡◌, []};
 ghost use Rattle.query_verdicts.specs.Carried.{whole_config};
@@ -10,10 +10,9 @@ use crate::counted::{config_redirects, count_redirected};
 use crate::ending::too_many_states;
 use class_judge::{Judge, JudgeFault, Naming, laws};
 use dns_data::NoMemory;
-use graph_form::Report;
 use io_edges::Gate;
 use net_model::Config;
-use query_verdicts::MOST_STATES;
+use query_verdicts::{Kept, KeptReport, MOST_STATES};
 use run_endings::Ending;
 use std::alloc::Global;
 use std::marker::Brand;
@@ -31,33 +30,34 @@ pub(crate) struct CheckLimits {
     pub rewrites: u32,
 }
 
-/// The report of a configuration; or how a run ends without one, since its class tree has too many names or else a
-/// representative reaches too many pairs of state and type. It is the same for every number of workers and every schedule.
-pub(crate) fn report_of<G: Gate + Sync, R: Threads + Wait + Sync>(
+/// What is kept of the report of a configuration; or how a run ends without one, since its class tree has too many names or
+/// else a representative reaches too many pairs of state and type. It is the same for every number of workers and every
+/// schedule.
+pub(crate) fn report_of<K: Kept + Drop, G: Gate + Sync, R: Threads + Wait + Sync>(
     rt: &R,
     alloc: Global,
     config: &Config,
     limits: CheckLimits,
     gate: &G,
-) -> Result<Report, Ending>
+) -> Result<KeptReport<K>, Ending>
     requires { AreLimits limits }
-    ensures { IsJudged limits.classes (whole_config config.now limits.rewrites) result }
+    ensures { IsJudged limits.classes (whole_config config.now limits.rewrites) K.kept_of result }
 {
-    judged::<Brand, G, R>(rt, alloc, config, limits, gate)
+    judged::<Brand, K, G, R>(rt, alloc, config, limits, gate)
 }
 
 /// What the judge of this name tells of the configuration.
-fn judged<N: Naming + Send + Sync, G: Gate + Sync, R: Threads + Wait + Sync>(
+fn judged<N: Naming + Send + Sync, K: Kept + Drop, G: Gate + Sync, R: Threads + Wait + Sync>(
     rt: &R,
     alloc: Global,
     config: &Config,
     limits: CheckLimits,
     gate: &G,
-) -> Result<Report, Ending>
+) -> Result<KeptReport<K>, Ending>
     requires limits { AreLimits limits }
     requires name { (whole_config config.now limits.rewrites ≡ N.subject) × (most_states ≡ N.states) }
     requires covering { IsCovering N.subject }
-    ensures { IsJudged limits.classes N.subject result }
+    ensures { IsJudged limits.classes N.subject K.kept_of result }
 {
     match Judge::<N>::prepare(alloc, config, limits.rewrites, MOST_STATES) {
         Ok(judge) => {
@@ -72,19 +72,19 @@ fn judged<N: Naming + Send + Sync, G: Gate + Sync, R: Threads + Wait + Sync>(
 
 /// What a judge tells of its configuration. Where a DNAME record of it may multiply the names of its class tree, they are
 /// counted before one is judged.
-fn counted<N: Naming + Send + Sync, G: Gate + Sync, R: Threads + Wait + Sync>(
+fn counted<N: Naming + Send + Sync, K: Kept + Drop, G: Gate + Sync, R: Threads + Wait + Sync>(
     rt: &R,
     alloc: Global,
     config: &Config,
     judge: &Judge<'_, N>,
     limits: CheckLimits,
     gate: &G,
-) -> Result<Report, Ending>
+) -> Result<KeptReport<K>, Ending>
     requires limits { AreLimits limits }
     requires whole { N.subject.below ≡ [] }
     requires states { most_states ≡ N.states }
     requires covering { IsCovering N.subject }
-    ensures { IsJudged limits.classes N.subject result }
+    ensures { IsJudged limits.classes N.subject K.kept_of result }
 {
     match count_redirected(
         alloc,
@@ -99,22 +99,27 @@ fn counted<N: Naming + Send + Sync, G: Gate + Sync, R: Threads + Wait + Sync>(
 
 /// What a judge tells of its subject, once it has judged the names of the class tree at or below the subject's name. It is
 /// the same for every number of workers and every schedule.
-pub(crate) fn told<N: Naming + Send + Sync, G: Gate + Sync, R: Threads + Wait + Sync>(
+pub(crate) fn told<
+    N: Naming + Send + Sync,
+    K: Kept + Drop,
+    G: Gate + Sync,
+    R: Threads + Wait + Sync,
+>(
     rt: &R,
     alloc: Global,
     judge: &Judge<'_, N>,
     limits: CheckLimits,
     gate: &G,
-) -> Result<Report, Ending>
+) -> Result<KeptReport<K>, Ending>
     requires limits { AreLimits limits }
     requires states { most_states ≡ N.states }
     requires covering { IsCovering N.subject }
-    ensures { IsJudged limits.classes N.subject result }
+    ensures { IsJudged limits.classes N.subject K.kept_of result }
 {
     laws::part_is_reached();
     match run_tree(rt, alloc, judge, limits.workers, limits.classes, gate) {
-        Ok(filed) => match judge.report(filed) {
-            Ok(report) => Ok(report),
+        Ok(filed) => match judge.kept_report(filed) {
+            Ok(told) => Ok(told),
             Err(JudgeFault::StatesPassed(query)) => Err(too_many_states(alloc, &query)),
             Err(JudgeFault::NoMemory) => Err(Ending::no_memory()),
         },

@@ -13,6 +13,7 @@ mod drill;
 mod ending;
 mod job;
 mod judging;
+mod kept_text;
 mod laws;
 mod load;
 mod recheck;

@@ -1,9 +1,12 @@
 //! The report on the queries at or below a name, and what the checks that an operator brings find in their classes.
 
 ghost use Rattle.std.specs.Prelude.{◌≡◌, ◌⊎◌, ◌<◌, ◌≤◌, map, IfOk, IfErr};
-ghost use Rattle.graph_form.specs.Report.{IsReport};
+ghost use Rattle.std.specs.List.{flat_map};
+ghost use Rattle.graph_form.specs.declared.report.Report.{Report};
+ghost use Rattle.groot_run.specs.KeptText.{kept_text};
 ghost use Rattle.net_model.specs.Tree.{IsInPart};
 ghost use Rattle.query_classes.specs.ClassList.{AreListed, classes_of_rows};
+ghost use Rattle.query_verdicts.specs.Kept.{IsKeptReport, KeepsReport};
 ghost use Rattle.query_verdicts.specs.Passed.{NonePasses};
 ghost use Rattle.query_verdicts.specs.Queries.{most_states};
 ghost use Rattle.query_verdicts.specs.Subjects.{IsCovering};
@@ -13,20 +16,19 @@ ghost use Rattle.groot_run.specs.Counted.{EndsPast};
 ghost use Rattle.groot_line.specs.Program.{largest_names};
 ghost use Rattle.groot_run.specs.Outcome.{IsScoped, Scopes, ScopesSubject, scope_of};
 
-use crate::check::status_of;
 use crate::classes::rows_at;
 use crate::judging::{CheckLimits, told};
+use crate::kept_text::{EntryText, numbers_of, status_of, texts_of};
 use crate::site::show_rows;
 use class_judge::{Judge, Naming};
 use dns_data::{List, Name, NoMemory, Octets};
-use graph_form::Report;
 use groot_line::{USUAL_REWRITES, USUAL_WORKERS};
 use io_edges::Gate;
 use job_scope::ScopeJudge;
 use net_model::Config;
 use query_classes::ClassRow;
-use query_verdicts::MOST_STATES;
-use report_json::scope_text;
+use query_verdicts::{KeptReport, MOST_STATES};
+use report_json::scope_pieces;
 use run_endings::Ending;
 use site_checks::{SiteCheck, tell};
 use std::alloc::Global;
@@ -109,8 +111,8 @@ fn told_by<N: Naming + Send + Sync, G: Gate + Sync, R: Threads + Wait + Sync>(
         rewrites: USUAL_REWRITES,
     };
     match rows_of(alloc, judge, scope, names) {
-        Ok(rows) => match told(rt, alloc, judge, limits, gate) {
-            Ok(report) => shown(alloc, judge, scope, rows.items(), &report, sites),
+        Ok(rows) => match told::<N, EntryText, G, R>(rt, alloc, judge, limits, gate) {
+            Ok(report) => shown(alloc, judge, scope, rows.items(), report, sites),
             Err(ending) => ending,
         },
         Err(ending) => ending,
@@ -124,21 +126,21 @@ fn shown<N: Naming>(
     judge: &Judge<'_, N>,
     scope: &Name,
     rows: &[ClassRow],
-    report: &Report,
+    report: KeptReport<EntryText>,
     sites: &mut Vec<Box<dyn SiteCheck>>,
 ) -> Ending
     requires name { (scope.now ≡ N.subject.below) × (most_states ≡ N.states) }
     requires listed { AreListed N.subject.ground N.subject.below (classes_of_rows rows.now) }
     requires none_passes { NonePasses N.subject most_states }
-    requires report { IsReport N.subject report.now }
+    requires report { IsKeptReport N.subject kept_text report }
     ensures { IsScoped N.subject (map (λ b. record { name = name b; held = held b; step = step b }) sites.old.items) result
         ⊎ (result ≡ no_memory) }
 {
     match show_rows(alloc, judge.queries(), rows, sites) {
-        Ok(()) => Ending::written(
-            status_of(report),
-            text_of(alloc, report, scope, sites.as_slice()),
-        ),
+        Ok(()) => {
+            let status = status_of(report.kept.items());
+            Ending::in_pieces(status, text_of(alloc, report, scope, sites.as_slice()))
+        }
         Err(ending) => ending,
     }
 }
@@ -158,15 +160,18 @@ fn rows_of<N: Naming>(
     rows_at(alloc, judge.base_names(), name, names)
 }
 
-/// The text of a scope.
+/// The text of a scope, in pieces.
 fn text_of(
     alloc: Global,
-    report: &Report,
+    report: KeptReport<EntryText>,
     scope: &Name,
     sites: &[Box<dyn SiteCheck>],
-) -> Result<Octets, NoMemory>
-    ensures { IfOk result (λ text. text ≡ scope_text report.now scope.now (map (λ b. record { title = name b; findings = held b }) sites.now)) }
+) -> Result<List<Octets>, NoMemory>
+    ensures { IfOk result (λ pieces. (whole : Report) → KeepsReport kept_text report whole
+        → flat_map (λ piece. piece) pieces ≡ scope_text whole scope.now (map (λ b. record { title = name b; findings = held b }) sites.now)) }
 {
+    let numbers = numbers_of(&report);
     let told = tell(alloc, sites)?;
-    scope_text(alloc, report, scope, told.items())
+    let texts = texts_of(alloc, report.kept)?;
+    scope_pieces(alloc, numbers, texts, scope, told.items())
 }

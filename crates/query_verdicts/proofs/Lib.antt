@@ -14,6 +14,7 @@ pub mod FollowedAlike
 pub mod FoundNothing
 pub mod FoundRight
 pub mod JudgedItems
+pub mod KeptEntries
 pub mod KeptFirsts
 pub mod KnownAlike
 pub mod NameVerdicts

@@ -1,22 +1,18 @@
 -- The entry of a fault with the walks of a class that shows it.
-use Rattle.std.proofs.Common.{◌≡◌, ◌∙◌, ◌≤◌, List, [], ◌∷◌, ◌++◌, All, Contains, Some, sym, ap, refl, subst, append_assoc, append-nil}
+use Rattle.std.proofs.Common.{◌≡◌, ◌≤◌, List, Some, refl, subst}
 use Rattle.std.specs.Prelude.{slice_get, Bool}
-use Rattle.std.proofs.lemmas.List.Elements.{All-contains, Contains-append_right}
 use Rattle.dns_data.specs.Name.{Labels}
 use Rattle.dns_data.specs.RrType.{number_of}
 use Rattle.dns_data.specs.declared.rr_type.RrType.{RrType}
-use Rattle.dns_data.proofs.Membership.{has_first}
 use Rattle.graph_form.specs.Report.{Subject, repeats}
 use Rattle.graph_form.specs.Trails.{AreFirst, GraphShows}
-use Rattle.graph_form.specs.declared.report.ReportEntry.{ReportEntry}
-use Rattle.interp_graph.proofs.ItemsByNumber.{beside_pushed}
 use Rattle.net_model.specs.declared.class.Class.{Class}
 use Rattle.net_model.specs.declared.walk.Walk.{Walk}
 use Rattle.net_model.specs.Class.{IsRepresentative}
 use Rattle.net_model.specs.Shown.{Shows, ShowsIn, with_sets}
 use Rattle.net_model.specs.Step.{Setting, following}
 use Rattle.net_model.proofs.TrialOrder.{one_representative}
-use Rattle.query_verdicts.specs.Entries.{AreEntriesOf, IsEntryOf, IsRightFound, IsWalked, PutsEntry}
+use Rattle.query_verdicts.specs.Entries.{IsEntryOf, IsRightFound, IsWalked}
 use Rattle.query_verdicts.specs.declared.first_classes.ClassFault.{ClassFault}
 use Rattle.query_verdicts.specs.declared.report.Walked.{Walked}
 use Rattle.query_verdicts.proofs.FirstWalksShow.{AreFirstWalks, shows_with, graph_shows, first_walks}
@@ -66,37 +62,3 @@ module _ (subject : Subject) (found : ClassFault) (right : IsRightFound subject 
           repeated = told;
         };
       }
-
--- ---- the entries
-
--- the entries are those of the faults passed so far, and these faults are left
-pub record IsListing (subject : Subject) (all left : List ClassFault) (entries : List ReportEntry) : Type 0 where
-  pub done : List ClassFault
-  pub is : all ≡ done ++ left
-  pub are : AreEntriesOf subject done entries
-
-module _ (subject : Subject) (all left rest : List ClassFault) (found : ClassFault) (entries : List ReportEntry)
-    (next : left ≡ found ∷ rest) (listing : IsListing subject all left entries) where
-  -- when the entry of the next fault is put at the end, the entries are those of the faults passed over
-  pub listing_step : (more : List ReportEntry) → PutsEntry subject found entries more → IsListing subject all rest more
-  listing_step more (entry, is, put) =
-      record {
-        done = listing.done ++ found ∷ [];
-        is = listing.is ∙ ap (λ (l : List ClassFault). listing.done ++ l) next ∙ sym (append_assoc listing.done (found ∷ []) rest);
-        are =
-            subst (AreEntriesOf subject (listing.done ++ found ∷ [])) (sym put)
-            (beside_pushed (IsEntryOf subject) listing.done entries found entry listing.are is);
-      }
-
-  -- the next of the faults that are left is one that its class shows
-  pub next_right : All (IsRightFound subject) all → IsRightFound subject found
-  next_right right =
-      All-contains (IsRightFound subject) all found right
-      (subst (λ (l : List ClassFault). Contains l found) (sym (listing.is ∙ ap (λ (l : List ClassFault). listing.done ++ l) next))
-      (Contains-append_right listing.done (found ∷ rest) found (has_first found rest)))
-
--- where no fault is left, the entries are those of all faults
-pub listing_ends : (subject : Subject) (all left : List ClassFault) (entries : List ReportEntry) → left ≡ [] → IsListing subject all left entries
-    → AreEntriesOf subject all entries
-listing_ends subject all left entries none listing =
-    subst (λ (l : List ClassFault). AreEntriesOf subject l entries) (sym (listing.is ∙ ap (λ (l : List ClassFault). listing.done ++ l) none ∙ append-nil listing.done)) listing.are

@@ -1,5 +1,5 @@
 -- The entries of a report, each by the fault and the class for which it stands: for the contracts of inner calls alone.
-use Rattle.std.specs.Prelude.{◌≡◌, ◌≢◌, ◌≤◌, Bool, List, [], ◌∷◌, ◌++◌, map, Contains, AllPairs}
+use Rattle.std.specs.Prelude.{◌≡◌, ◌≢◌, ◌≤◌, Bool, List, map, Contains, AllPairs}
 use Rattle.std.specs.List.{AllZip, AllByRecursion}
 use Rattle.std.specs.Ordering.{is_lt}
 use Rattle.std.specs.declared.cmp.Ordering.TheVariants.{Less}
@@ -44,10 +44,6 @@ pub record IsEntryOf (subject : Subject) (found : ClassFault) (entry : ReportEnt
 -- the entry of a fault with these parts
 abbrev pub entry_of_parts : ClassFault → EntryParts → ReportEntry
 entry_of_parts found parts = record { seen = found.seen; query = parts.query; repeats = parts.repeats; walks = parts.walks }
-
--- the entry of the fault is put behind the others
-abbrev pub PutsEntry : Subject → ClassFault → List ReportEntry → List ReportEntry → Type 0
-PutsEntry subject found old new = (entry : ReportEntry) × IsEntryOf subject found entry × (new ≡ old ++ entry ∷ [])
 
 -- there is one entry for each fault, in turn
 abbrev pub AreEntriesOf : Subject → List ClassFault → List ReportEntry → Type 0

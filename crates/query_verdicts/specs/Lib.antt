@@ -8,6 +8,7 @@ pub use Rattle.walk_laws.specs.Outcome
 pub mod Carried
 pub mod Entries
 pub mod FiledVerdict
+pub mod Kept
 pub mod Learnt
 pub mod Passed
 pub mod Queries

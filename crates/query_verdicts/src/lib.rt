@@ -37,6 +37,7 @@ mod base_names;
 mod equal;
 mod first_classes;
 mod graphs;
+mod kept;
 mod known_classes;
 pub mod laws;
 mod learnt;
@@ -53,6 +54,7 @@ mod verdicts;
 
 pub use base_names::{base_graph, joint_base_graph};
 pub use graphs::QueryGraphs;
+pub use kept::{Kept, KeptReport};
 pub use name_judge::NameJudge;
 pub use own_class::OwnClass;
 pub use queries::MOST_STATES;

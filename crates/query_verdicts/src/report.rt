@@ -1,9 +1,10 @@
 //! The report of a subject, from the verdicts of the names of its class tree: how many names and classes these have, and
 //! an entry for each fault, with the first class that shows it and the first walks of that class's representative.
 
-ghost use Rattle.std.specs.Prelude.{◌≡◌, ◌++◌, ◌≤◌, ◌<◌, ◌^◌, All, length, IfOk, IfErr, IfSome, IsPermutation, OnOk, Some, slice_get};
+ghost use Rattle.std.specs.Prelude.{◌≡◌, ◌≤◌, ◌<◌, ◌^◌, All, length, IfOk, IfErr, IfSome, IsPermutation, OnOk, Some, slice_get};
 ghost use Rattle.std.specs.List.Sorted.{IsSortedBy};
-ghost use Rattle.query_verdicts.specs.Entries.{AreEntries, AreEntriesOf, IsEntryOf, IsRightFound, IsWalked, PutsEntry, entry_of_parts, is_before};
+ghost use Rattle.query_verdicts.specs.Entries.{IsEntryOf, IsRightFound, IsWalked, entry_of_parts};
+ghost use Rattle.query_verdicts.specs.Kept.{AreKept, AreKeptOf, IsKeptReport, PutsKept, is_kept_before};
 ghost use Rattle.query_verdicts.specs.Passed.{NonePasses, IsReportFault};
 ghost use Rattle.query_verdicts.specs.Rows.{AreRows};
 ghost use Rattle.query_verdicts.specs.Queries.{IsLeastGraph};
@@ -15,6 +16,7 @@ ghost use Rattle.net_model.specs.Class.{IsRepresentative};
 ghost use Rattle.net_model.specs.declared.walk.Walk.{Walk as WalkValue};
 
 use crate::first_classes::{ClassFault, first_classes};
+use crate::kept::{Kept, KeptReport};
 use crate::name_judge::NameJudge;
 use crate::passed::first_passed;
 use crate::subject::{OnSubject, SubjectGround};
@@ -66,6 +68,27 @@ impl<'a, S: OnSubject> NameJudge<'a, S> {
         ensures none_passes { OnOk result (NonePasses S.subject S.states) }
         ensures fault { IfErr result (IsReportFault S.subject S.states) }
     {
+        let told = self.kept_report::<ReportEntry, W>(filed)?;
+        Ok(Report {
+            classes: told.classes,
+            names: told.names,
+            rewrites: told.rewrites,
+            entries: told.kept,
+        })
+    }
+
+    /// What is kept of the entries of that report, with its three numbers. An entry's walks are made when it is, and go
+    /// when what is kept of it is made, so that no more than one entry has its walks. An error comes as with `report`.
+    pub fn kept_report<
+        K: Kept + Drop,
+        W: Work<Item = TreeName<SubjectGround<S>>, Verdict = FiledVerdict>,
+    >(&self, filed: List<Filed<W>>) -> Result<KeptReport<K>, JudgeFault>
+        requires rows { AreRows S.subject S.states filed }
+        requires few { length filed < 2 ^ 31 }
+        ensures report { IfOk result (IsKeptReport S.subject K.kept_of) }
+        ensures none_passes { OnOk result (NonePasses S.subject S.states) }
+        ensures fault { IfErr result (IsReportFault S.subject S.states) }
+    {
         if let Some(query) = first_passed(self, filed.items())? {
             return Err(JudgeFault::StatesPassed(query));
         }
@@ -76,25 +99,26 @@ impl<'a, S: OnSubject> NameJudge<'a, S> {
     }
 }
 
-/// The report from the names of the class tree with their verdicts, where neither a class nor a server's name passes
-/// the limit.
-fn report_with<S: OnSubject, W: Work<Item = TreeName<SubjectGround<S>>, Verdict = FiledVerdict>>(
-    judge: &NameJudge<'_, S>,
-    filed: List<Filed<W>>,
-) -> Result<Report, NoMemory>
+/// What is kept of the report from the names of the class tree with their verdicts, where neither a class nor a server's
+/// name passes the limit.
+fn report_with<
+    S: OnSubject,
+    K: Kept + Drop,
+    W: Work<Item = TreeName<SubjectGround<S>>, Verdict = FiledVerdict>,
+>(judge: &NameJudge<'_, S>, filed: List<Filed<W>>) -> Result<KeptReport<K>, NoMemory>
     requires rows { AreRows S.subject S.states filed }
     requires none_passes { NonePasses S.subject S.states }
     requires few { length filed < 2 ^ 31 }
-    ensures { IfOk result (IsReport S.subject) }
+    ensures { IfOk result (IsKeptReport S.subject K.kept_of) }
 {
     let names = filed.len();
     let below = below_count(filed.items());
-    let entries = entries_of(judge, filed)?;
-    Ok(Report {
+    let kept = kept_of_all(judge, filed)?;
+    Ok(KeptReport {
         classes: (names + below) as u32,
         names: names as u32,
         rewrites: judge.rewrites(),
-        entries,
+        kept,
     })
 }
 
@@ -114,21 +138,23 @@ fn below_count<S: OnSubject, W: Work<Item = TreeName<SubjectGround<S>>, Verdict 
     count
 }
 
-/// The entries of the faults that the classes of the names show, in fault order, where no class passes the limit.
-fn entries_of<S: OnSubject, W: Work<Item = TreeName<SubjectGround<S>>, Verdict = FiledVerdict>>(
-    judge: &NameJudge<'_, S>,
-    filed: List<Filed<W>>,
-) -> Result<List<ReportEntry>, NoMemory>
+/// What is kept of the entries of the faults that the classes of the names show, in fault order, where no class passes the
+/// limit.
+fn kept_of_all<
+    S: OnSubject,
+    K: Kept + Drop,
+    W: Work<Item = TreeName<SubjectGround<S>>, Verdict = FiledVerdict>,
+>(judge: &NameJudge<'_, S>, filed: List<Filed<W>>) -> Result<List<K>, NoMemory>
     requires rows { AreRows S.subject S.states filed }
     requires none_passes { NonePasses S.subject S.states }
-    ensures { IfOk result (AreEntries S.subject) }
+    ensures { IfOk result (AreKept S.subject K.kept_of) }
 {
     let firsts = first_classes(judge.alloc(), filed)?;
     let by_class = in_class_order(firsts)?;
-    let made = entries_by_class(judge, by_class)?;
+    let made = kept_by_class(judge, by_class)?;
     // Named, since the proof speaks of the list that comes where memory suffices.
-    let entries = in_fault_order(made)?;
-    Ok(entries)
+    let kept = in_fault_order(made)?;
+    Ok(kept)
 }
 
 /// The faults, those of one class one after the other.
@@ -148,41 +174,42 @@ struct Walked {
     graph: Graph,
 }
 
-/// The entries of faults with their classes, one for each. A graph is made where the class is another than that of the
-/// fault before: once for each class, if the faults of one class stand together.
-fn entries_by_class<S: OnSubject>(
+/// What is kept of the entries of faults with their classes, one for each. A graph is made where the class is another than
+/// that of the fault before: once for each class, if the faults of one class stand together.
+fn kept_by_class<S: OnSubject, K: Kept + Drop>(
     judge: &NameJudge<'_, S>,
     found: List<ClassFault>,
-) -> Result<List<ReportEntry>, NoMemory>
+) -> Result<List<K>, NoMemory>
     requires none_passes { NonePasses S.subject S.states }
     requires right { All (IsRightFound S.subject) found }
-    ensures { IfOk result (AreEntriesOf S.subject found) }
+    ensures { IfOk result (AreKeptOf S.subject K.kept_of found) }
 {
-    let mut entries = List::new(judge.alloc());
+    let mut kept = List::new(judge.alloc());
     let mut last = None;
     for one in found {
-        let walked = put_entry(judge, last, one, &mut entries)?;
+        let walked = put_kept(judge, last, one, &mut kept)?;
         last = Some(walked);
     }
-    Ok(entries)
+    Ok(kept)
 }
 
-/// Puts the entry of a fault with its class at the end, and gives the walks of that class, for the next one.
-fn put_entry<S: OnSubject>(
+/// Puts what is kept of the entry of a fault with its class at the end, and gives the walks of that class, for the next one.
+fn put_kept<S: OnSubject, K: Kept + Drop>(
     judge: &NameJudge<'_, S>,
     last: Option<Walked>,
     found: ClassFault,
-    entries: &mut List<ReportEntry>,
+    kept: &mut List<K>,
 ) -> Result<Walked, NoMemory>
     requires none_passes { NonePasses S.subject S.states }
     requires last { IfSome last (IsWalked S.subject) }
     requires right { IsRightFound S.subject found }
     ensures walked { IfOk result (IsWalked S.subject) }
-    ensures put { OnOk result (PutsEntry S.subject found entries.old entries.new) }
+    ensures put { OnOk result (PutsKept S.subject K.kept_of found kept.old kept.new) }
 {
     let walked = walked_for(judge, last, &found)?;
     let entry = entry_of(judge, &walked, found)?;
-    entries.push(entry)?;
+    let one = K::of_entry(judge.alloc(), entry)?;
+    kept.push(one)?;
     Ok(walked)
 }
 
@@ -326,12 +353,12 @@ fn repeated(alloc: Global, walks: &[Walk]) -> Result<bool, NoMemory>
     }
 }
 
-/// The entries in fault order.
-fn in_fault_order(entries: List<ReportEntry>) -> Result<List<ReportEntry>, NoMemory>
-    ensures same { IfOk result (IsPermutation entries) }
-    ensures sorted { IfOk result (IsSortedBy is_before) }
+/// What is kept of entries, in fault order.
+fn in_fault_order<K: Kept + Drop>(kept: List<K>) -> Result<List<K>, NoMemory>
+    ensures same { IfOk result (IsPermutation kept) }
+    ensures sorted { IfOk result (IsSortedBy (is_kept_before K.fault_of)) }
 {
-    let mut sorted = entries.into_vec();
-    sorted.sort_by(|a, b| a.seen.fault.compare(&b.seen.fault))?;
+    let mut sorted = kept.into_vec();
+    sorted.sort_by(|a, b| a.its_fault().compare(b.its_fault()))?;
     Ok(List::from_vec(sorted))
 }

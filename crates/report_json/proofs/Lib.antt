@@ -4,4 +4,6 @@ pub mod ReadBack
 pub mod Sending
 pub mod TextsRead
 pub mod Walks
+pub mod Commas
+pub mod PiecesJoined
 mod Worked

@@ -6,5 +6,6 @@ pub mod Walks
 pub mod Ask
 pub mod Faults
 pub mod Report
+pub mod Pieces
 pub mod Sites
 pub mod Members

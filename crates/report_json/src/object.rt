@@ -10,9 +10,18 @@ ghost use Rattle.report_json.specs.Json.{json_members, object_of, name_value, da
 ghost use Rattle.report_json.specs.Members.{part_value, member_of};
 ghost use Rattle.report_json.specs.Walks.{zone_member};
 
+use crate::written::Written;
 use dns_data::{Name, NoMemory, Rdata, rdata_text};
 use serde::Serializer;
 use std::alloc::Global;
+
+impl Written for Name {
+    ghost value = { name_value };
+
+    fn send<S: Serializer>(&self, alloc: Global, out: &mut S) -> Result<(), S::Error> {
+        send_name(alloc, self, out)
+    }
+}
 
 /// A member of an object.
 #[derive(Clone, Copy)]

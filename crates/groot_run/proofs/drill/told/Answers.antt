@@ -10,17 +10,19 @@ use Rattle.groot_run.specs.Outcome.{drilled, status_of}
 use Rattle.groot_run.proofs.drill.told.Goals as goal
 
 -- an ending with a report's status and a drill's line
-with_line : (zones : ℕ) (config : Config) (report : Report) (how : Status) (records faults : ℕ) → how ≡ status_of report.entries
-    → records ≡ min (record_count config.servers) last_count → faults ≡ length report.entries
-    → with_output how (drill_line zones records report.names faults) ≡ drilled zones config report
-with_line zones config report how records faults same counted many =
-    ap (λ (s : Status). with_output s (drill_line zones records report.names faults)) same
-    ∙ ap (λ (n : ℕ). with_output (status_of report.entries) (drill_line zones n report.names faults)) counted
+with_line : (zones : ℕ) (config : Config) (report : Report) (how : Status) (records names faults : ℕ) → how ≡ status_of report.entries
+    → records ≡ min (record_count config.servers) last_count → names ≡ report.names → faults ≡ length report.entries
+    → with_output how (drill_line zones records names faults) ≡ drilled zones config report
+with_line zones config report how records names faults same counted named many =
+    ap (λ (s : Status). with_output s (drill_line zones records names faults)) same
+    ∙ ap (λ (n : ℕ). with_output (status_of report.entries) (drill_line zones n names faults)) counted
+    ∙ ap (λ (n : ℕ). with_output (status_of report.entries) (drill_line zones (min (record_count config.servers) last_count) n faults)) named
     ∙ ap (λ (n : ℕ). with_output (status_of report.entries) (drill_line zones (min (record_count config.servers) last_count) report.names n)) many
 
 pub returns : goal.returns
-returns c =
-    elim (c.written.ensures (drill_line c.args.zones c.records.result c.args.report.now.names c.len-faults.result) c.line_of-line.ensures) [
-      | inl is ↦ inl (is ∙ with_line c.args.zones c.args.config.now c.args.report.now c.status_of.result c.records.result c.len-faults.result c.status_of.ensures c.records.ensures c.len-faults.ensures)
+returns c = λ report named many.
+    elim (c.written.ensures (drill_line c.args.zones c.records.result c.args.told.now.names c.len-faults.result) c.line_of-line.ensures) [
+      | inl is ↦ inl (is ∙ with_line c.args.zones c.args.config.now report c.status_of.result c.records.result c.args.told.now.names c.len-faults.result
+          (c.status_of.ensures report.entries (ap length c.items.ensures ∙ many)) c.records.ensures named (c.len-faults.ensures ∙ many))
       | inr ran_out ↦ inr ran_out
     ]

@@ -8,18 +8,18 @@ use Rattle.groot_run.specs.Outcome.{HasMoreNamesAt}
 use Rattle.groot_run.proofs.Budgets.{list_is_short, names_pass, states_pass}
 use Rattle.groot_run.proofs.judging.told.Goals as goal
 
-pub report-requires-clause-few : goal.report-requires-clause-few
-report-requires-clause-few g c =
+pub kept_report-requires-clause-few : goal.kept_report-requires-clause-few
+kept_report-requires-clause-few g c =
     let N = g.N.Naming in
     list_is_short N.subject.below N.children_of c.args.limits.classes _ _ c.in-Ok.filed c.requires.limits.classes_most c.in-Ok.ensures.whole c.in-Ok.ensures.few
 
-pub returns-in-Ok-report : goal.returns-in-Ok-report
-returns-in-Ok-report g c =
+pub returns-in-Ok-kept_report : goal.returns-in-Ok-kept_report
+returns-in-Ok-kept_report g c =
     let N = g.N.Naming in
     let tree = c.part_is_reached.ensures N.subject N.children_of c.requires.covering N.values.children c.args.limits.classes in (
       λ more. c.in-Ok.ensures.few (tree.1 more),
-      subst (λ (states : ℕ). NonePasses N.subject states) (sym c.requires.states) c.in-Ok-report.ensures.none_passes,
-      c.in-Ok-report.ensures.report,
+      subst (λ (states : ℕ). NonePasses N.subject states) (sym c.requires.states) c.in-Ok-kept_report.ensures.none_passes,
+      c.in-Ok-kept_report.ensures.report,
     )
 
 pub returns-in-Err-StatesPassed : goal.returns-in-Err-StatesPassed

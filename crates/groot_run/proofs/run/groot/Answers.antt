@@ -1,11 +1,8 @@
-use Rattle.std.proofs.Common.{inl, inr}
+use Rattle.std.proofs.Common.{ℕ, List, Bor, map}
 use Rattle.groot_line.specs.declared.program.Program.TheVariants.{Groot}
 use Rattle.groot_run.proofs.HandedChecks.{without_checks}
 use Rattle.groot_run.proofs.run.groot.Goals as goal
 
-pub returns-clause-complete : goal.returns-clause-complete
-returns-clause-complete g c = λ none quiet.
-    elim (c.groot_with_sites.ensures.complete none quiet) [
-      | inl ended ↦ inl (ended.0, without_checks _ _ c.new-none.ensures.items Groot (g.F.Files.told c.groot_with_sites.new.files) _ ended.0 ended.1, ended.2, ended.3)
-      | inr ran_out ↦ inr ran_out
-    ]
+pub returns-clause-run : goal.returns-clause-run
+returns-clause-run g c =
+    without_checks _ _ c.new-none.ensures.items Groot (map (λ (word : Bor (List ℕ)). word.now) c.args.words.now) _ _ _ c.groot_with_sites.result c.groot_with_sites.ensures.run

@@ -1,16 +1,12 @@
-use Rattle.std.proofs.Common.{inl, inr, sym, subst}
-use Rattle.query_verdicts.specs.Rows.{AreRows}
+use Rattle.std.proofs.Common.{◌∙◌, List, ◌≡◌, [], ◌∷◌, map, ap, refl}
+use Rattle.graph_form.specs.declared.report.ReportEntry.{ReportEntry}
 use Rattle.query_verdicts.proofs.name_judge.NameJudge.report.Goals as goal
 
-pub first_passed-requires : goal.first_passed-requires
-first_passed-requires g c = record { rows = subst (AreRows g.S.OnSubject.subject g.S.OnSubject.states) (sym c.items.ensures) c.requires.rows }
-
-pub returns-in-Some-clause-fault : goal.returns-in-Some-clause-fault
-returns-in-Some-clause-fault g c = inl (rw c.in-Some.is at c.in_ok-query.ensures)
-
-pub returns-in-Some-2-clause-fault : goal.returns-in-Some-2-clause-fault
-returns-in-Some-2-clause-fault g c = inr (rw c.in_default.is at c.in_ok-query.ensures, rw c.in-Some-2.is at c.in_ok-server.ensures)
-
-pub report_with-requires-clause-none_passes : goal.report_with-requires-clause-none_passes
-report_with-requires-clause-none_passes g c =
-    record { no_class = rw c.in_default.is at c.in_ok-query.ensures; no_server = rw c.in-None.is at c.in_ok-server.ensures }
+pub returns-clause-report : goal.returns-clause-report
+returns-clause-report g c =
+    let told = c.in_ok-told.ensures.report in
+    rw (told.keeps.classes, told.keeps.names, told.keeps.rewrites, told.keeps.entries ∙ as_they_are told.report.entries) told.is_report
+  where
+    as_they_are : (entries : List ReportEntry) → map (λ (entry : ReportEntry). entry) entries ≡ entries
+    as_they_are [] = refl
+    as_they_are (entry ∷ entries) = ap (λ rest. entry ∷ rest) (as_they_are entries)

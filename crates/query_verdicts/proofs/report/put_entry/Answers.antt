@@ -1,4 +1,0 @@
-use Rattle.query_verdicts.proofs.report.put_entry.Goals as goal
-
-pub returns-clause-put : goal.returns-clause-put
-returns-clause-put g c = (c.in_ok-entry.entry, c.in_ok-entry.ensures, c.in_ok-push.ensures.ok)
