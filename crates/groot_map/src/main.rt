@@ -1,17 +1,13 @@
 //! The program: the top call over the disk, the standard streams and the words of the command line.
 #![tactic(auto)]
 
-ghost use Rattle.std.specs.Prelude.{◌≡◌, ◌⊎◌, map};
-ghost use Rattle.std.specs.Io.KnownBytes.{Appends};
+ghost use Rattle.std.specs.Prelude.{map};
 ghost use Rattle.std.specs.String.{string_bytes};
-ghost use Rattle.io_edges.specs.Counts.{Rose};
-ghost use Rattle.run_endings.specs.declared.ending.Ending.{Ending};
-ghost use Rattle.zone_map.specs.Outcome.{NoJobReadFailed, Outcome};
-ghost use Rattle.zone_map.specs.Words.{job_of};
+ghost use Rattle.zone_map.specs.Runs.{RunsAsAsked};
 
 use dns_data::NoMemory;
 use io_edges::{DiskFiles, Files, OutSink, Sink, borrowed_words, command_words};
-use run_endings::Status;
+use run_endings::{Status, tell_no_memory};
 use std::alloc::Global;
 use std::process::ExitCode;
 use zone_map::groot_map;
@@ -22,12 +18,13 @@ fn main(rt: HostRuntime) -> ExitCode {
     let mut err = OutSink::new(rt.stderr());
     let status = match command_words(&rt) {
         Ok(words) => run(rt.alloc(), words.as_slice(), &mut files, &mut out, &mut err),
-        Err(NoMemory) => Status::NoMemory,
+        Err(NoMemory) => tell_no_memory(&mut err),
     };
     ExitCode::from(status.number())
 }
 
-/// Runs the top call with these words: where nothing failed, the run is the outcome of their job.
+/// Runs the top call with these words: it is a run of their job, of which the output passes on exactly the text where
+/// nothing fails.
 fn run<F: Files, O: Sink, E: Sink>(
     alloc: Global,
     words: &[String],
@@ -35,14 +32,14 @@ fn run<F: Files, O: Sink, E: Sink>(
     out: &mut O,
     err: &mut E,
 ) -> Status
-    ensures { NoJobReadFailed (F.told files.new) (job_of (map string_bytes words.now)) (F.faults files.old) (F.faults files.new) →
-        (Rose (O.faults out.old) (O.faults out.new) → ⊥) →
-        ((ending : Ending) × Outcome (F.told files.new) (job_of (map string_bytes words.now)) ending
-        × (result ≡ ending.status) × Appends (O.taken out.old) (O.taken out.new) ending.out)
-        ⊎ (result ≡ Status.NoMemory) }
+    ensures { RunsAsAsked (map string_bytes words.now)
+        (record { told_before = F.told files.old; told_after = F.told files.new; failed_before = F.faults files.old; failed_after = F.faults files.new })
+        (record { taken_before = O.taken out.old; taken_after = O.taken out.new; passed_before = O.passed out.old; passed_after = O.passed out.new; failed_before = O.faults out.old; failed_after = O.faults out.new })
+        (record { taken_before = E.taken err.old; taken_after = E.taken err.new; passed_before = E.passed err.old; passed_after = E.passed err.new; failed_before = E.faults err.old; failed_after = E.faults err.new })
+        result }
 {
     match borrowed_words(alloc, words) {
         Ok(words) => groot_map(alloc, words.as_slice(), files, out, err),
-        Err(NoMemory) => Status::NoMemory,
+        Err(NoMemory) => tell_no_memory(err),
     }
 }

@@ -1,8 +1,8 @@
 -- How the walks of each name end, as a function, and what is known of it. That these are its ends, the lemma
 -- `ends_are` says.
-use Rattle.std.specs.Prelude.{◌≡◌, nat_lt, List, length, Option, Some, None, if◌then◌else◌}
+use Rattle.std.specs.Prelude.{◌≡◌, nat_lt, Bool, List, length, Option, Some, None, if◌then◌else◌}
 use Rattle.std.specs.BTreeMap as map
-use Rattle.std.specs.List.{flat_map}
+use Rattle.std.specs.List.{flat_map, list_any}
 use Rattle.dns_data.specs.Name.{Labels, name_cmp}
 use Rattle.dns_data.specs.declared.rr_type.RrType.{RrType}
 use Rattle.dns_data.specs.declared.rr_type.RrType.TheVariants as types
@@ -10,9 +10,32 @@ use Rattle.net_model.specs.declared.walk.Walk.{Walk}
 use Rattle.net_model.specs.Step.{Setting, start}
 use Rattle.net_model.proofs.AllWalks.{walks_within}
 use Rattle.net_model.proofs.RoundsExist.{query_settles}
-use Rattle.name_ends.specs.Ends.{ends_among, most_walks}
+use Rattle.plain_resolver.specs.declared.walk_end.WalkEnd.{WalkEnd}
+use Rattle.name_ends.specs.Ends.{ends_among, is_kind, most_walks}
+use Rattle.name_ends.specs.declared.kinds.EndKind.{EndKind}
+use Rattle.name_ends.specs.declared.kinds.EndKind.TheVariants as kinds
 use Rattle.name_ends.specs.declared.ends.NameEnds.{NameEnds}
 use Rattle.name_ends.specs.declared.ends.TypeEnds.{TypeEnds}
+
+-- some of these ends is of the kind
+abbrev pub some_kind : EndKind → List WalkEnd → Bool
+some_kind kind ends = list_any (λ one. is_kind kind one.leaf) ends
+
+-- what is told of walks by their ends
+abbrev pub told_of : List WalkEnd → TypeEnds
+told_of ends =
+    record {
+      answer = some_kind kinds.Answer ends;
+      no_data = some_kind kinds.NoData ends;
+      no_name = some_kind kinds.NxDomain ends;
+      outside = some_kind kinds.Outside ends;
+      unhosted = some_kind kinds.Unhosted ends;
+      lame = some_kind kinds.Lame ends;
+      no_address = some_kind kinds.NoAddress ends;
+      limit = some_kind kinds.Limit ends;
+      overlong = some_kind kinds.Overlong ends;
+      rewritten = list_any (λ one. one.rewritten) ends;
+    }
 
 -- what is told of walks, unless they are more than are followed
 abbrev pub ends_unless_many : List Walk → Option TypeEnds

@@ -4,14 +4,13 @@ use Rattle.std.specs.List.{list_any}
 use Rattle.dns_data.specs.Name.{Labels}
 use Rattle.dns_data.specs.declared.rr_type.RrType.{RrType}
 use Rattle.dns_data.specs.declared.rr_type.RrType.TheVariants as types
-use Rattle.net_model.specs.declared.walk.Hop.{Hop}
-use Rattle.net_model.specs.declared.walk.Hop.TheVariants.{Refer, Rewrite}
 use Rattle.net_model.specs.declared.walk.Leaf.{Leaf}
 use Rattle.net_model.specs.declared.walk.Leaf.TheVariants as leaves
 use Rattle.net_model.specs.declared.walk.Walk.{Walk}
 use Rattle.net_model.specs.Step.{Setting}
 use Rattle.net_model.specs.Walk.{AreWalks}
 use Rattle.plain_resolver.specs.Passed.{HasMoreWalks}
+use Rattle.plain_resolver.specs.WalkEnds.{is_rewrite}
 use Rattle.name_ends.specs.declared.kinds.EndKind.{EndKind}
 use Rattle.name_ends.specs.declared.kinds.EndKind.TheVariants as kinds
 use Rattle.name_ends.specs.declared.ends.TypeEnds.{TypeEnds}
@@ -50,11 +49,6 @@ kind_number kinds.Overlong = 8
 -- the end is of the kind
 abbrev pub is_kind : EndKind → Leaf → Bool
 is_kind kind leaf = kind_number (kind_of leaf) == kind_number kind
-
--- the hop is a rewrite of the name
-abbrev pub is_rewrite : Hop → Bool
-is_rewrite (Refer cut) = false
-is_rewrite (Rewrite place by_dname to) = true
 
 -- some walk has an end of the kind
 abbrev pub some_ends : EndKind → List Walk → Bool

@@ -4,9 +4,9 @@ ghost use Rattle.std.specs.Prelude.{◌≡◌, IfOk};
 ghost use Rattle.net_model.specs.Step.{Setting, following};
 ghost use Rattle.name_ends.specs.Asked.{AreKnown, ends_in, type_ends};
 
-use crate::ends::{NameEnds, TypeEnds, ends_among};
+use crate::ends::{NameEnds, TypeEnds, told_of};
 use dns_data::{Name, NoMemory, RrType};
-use plain_resolver::{ResolveFault, resolve_at};
+use plain_resolver::{ResolveFault, ends_at};
 use std::alloc::Global;
 use std::collections::BTreeMap;
 use std::marker::Model;
@@ -116,8 +116,8 @@ fn type_ends(
 ) -> Result<Option<TypeEnds>, NoMemory>
     ensures { IfOk result (λ ends. ends ≡ type_ends (following hosts.now rewrites followed.now) name.now rtype) }
 {
-    match resolve_at(alloc, hosts, rewrites, followed, name, rtype, MOST_WALKS) {
-        Ok(walks) => Ok(Some(ends_among(walks.items()))),
+    match ends_at(alloc, hosts, rewrites, followed, name, rtype, MOST_WALKS) {
+        Ok(ends) => Ok(Some(told_of(ends.items()))),
         Err(ResolveFault::WalksPassed) => Ok(None),
         Err(ResolveFault::NoMemory) => Err(NoMemory),
     }

@@ -1,10 +1,11 @@
 //! What is told of walks.
 
 ghost use Rattle.std.specs.Prelude.{◌≡◌};
-ghost use Rattle.name_ends.specs.Ends.{ends_among, is_answered, is_dead, is_type_answered, is_type_dead, only_dead};
+ghost use Rattle.name_ends.specs.Asked.{told_of};
+ghost use Rattle.name_ends.specs.Ends.{is_alias, is_answered, is_dead, is_type_answered, is_type_dead, is_type_rewritten, only_dead};
 
-use crate::kinds::{EndKind, some_ends, some_rewrites};
-use net_model::Walk;
+use crate::kinds::{EndKind, some_kind, some_rewritten};
+use plain_resolver::WalkEnd;
 
 /// Of each kind of end whether some walk of a type ends so, and whether some walk is rewritten.
 #[derive(Clone, Copy, Debug)]
@@ -28,27 +29,27 @@ pub struct NameEnds {
     pub six: Option<TypeEnds>,
 }
 
-/// What is told of walks.
-pub(crate) fn ends_among(walks: &[Walk]) -> TypeEnds
-    ensures { result ≡ ends_among walks.now }
+/// What is told of walks by their ends.
+pub(crate) fn told_of(ends: &[WalkEnd]) -> TypeEnds
+    ensures { result ≡ told_of ends.now }
 {
     TypeEnds {
-        answer: some_ends(EndKind::Answer, walks),
-        no_data: some_ends(EndKind::NoData, walks),
-        no_name: some_ends(EndKind::NxDomain, walks),
-        outside: some_ends(EndKind::Outside, walks),
-        unhosted: some_ends(EndKind::Unhosted, walks),
-        lame: some_ends(EndKind::Lame, walks),
-        no_address: some_ends(EndKind::NoAddress, walks),
-        limit: some_ends(EndKind::Limit, walks),
-        overlong: some_ends(EndKind::Overlong, walks),
-        rewritten: some_rewrites(walks),
+        answer: some_kind(EndKind::Answer, ends),
+        no_data: some_kind(EndKind::NoData, ends),
+        no_name: some_kind(EndKind::NxDomain, ends),
+        outside: some_kind(EndKind::Outside, ends),
+        unhosted: some_kind(EndKind::Unhosted, ends),
+        lame: some_kind(EndKind::Lame, ends),
+        no_address: some_kind(EndKind::NoAddress, ends),
+        limit: some_kind(EndKind::Limit, ends),
+        overlong: some_kind(EndKind::Overlong, ends),
+        rewritten: some_rewritten(ends),
     }
 }
 
 impl TypeEnds {
     /// Whether no walk ends otherwise than in no data or in no such name.
-    pub(crate) fn only_dead(&self) -> bool
+    pub fn only_dead(&self) -> bool
         ensures { result ≡ only_dead self.now }
     {
         !(self.answer
@@ -76,6 +77,13 @@ impl NameEnds {
     {
         is_type_answered(&self.four) || is_type_answered(&self.six)
     }
+
+    /// Whether the name is an alias: some walk is rewritten (RFC 2181 section 10.3).
+    pub fn is_alias(&self) -> bool
+        ensures { result ≡ is_alias self.now }
+    {
+        is_type_rewritten(&self.four) || is_type_rewritten(&self.six)
+    }
 }
 
 /// Whether each walk of a type ends in no data or in no such name, and there are no more than are followed.
@@ -94,6 +102,16 @@ fn is_type_answered(ends: &Option<TypeEnds>) -> bool
 {
     match ends {
         Some(ends) => ends.answer,
+        None => false,
+    }
+}
+
+/// Whether some walk of a type is rewritten.
+fn is_type_rewritten(ends: &Option<TypeEnds>) -> bool
+    ensures { result ≡ is_type_rewritten ends.now }
+{
+    match ends {
+        Some(ends) => ends.rewritten,
         None => false,
     }
 }

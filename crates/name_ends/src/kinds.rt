@@ -1,14 +1,17 @@
 //! Kinds of ends.
 
 ghost use Rattle.std.specs.Prelude.{◌≡◌};
-ghost use Rattle.name_ends.specs.Ends.{is_kind, is_rewrite, kind_number, kind_of, some_ends, some_rewrites};
 ghost use Rattle.std.specs.List.{list_any};
+ghost use Rattle.name_ends.specs.Asked.{some_kind};
+ghost use Rattle.name_ends.specs.Ends.{is_kind, kind_number, kind_of};
 
-use net_model::{Hop, Leaf, Walk};
+use net_model::Leaf;
+use plain_resolver::WalkEnd;
 
 /// The kinds of ends of walks: data of the type, no data (RFC 2308 section 2.2), no such name (section 2.1), a server that
 /// holds no zone for the name, a name server that isn't configured, one that doesn't serve the delegated zone (RFC 1912
-/// section 2.8), one whose address can't be learnt, one rewrite more than is allowed, too long a name (RFC 6672 section 2.2).
+/// section 2.8), one whose address can't be learnt, one rewrite more than is allowed, too long a name (RFC 6672 section
+/// 2.2).
 #[derive(Clone, Copy, Debug)]
 pub enum EndKind {
     Answer,
@@ -58,11 +61,11 @@ impl EndKind {
     }
 }
 
-/// Whether some walk has an end of the kind.
-pub(crate) fn some_ends(kind: EndKind, walks: &[Walk]) -> bool
-    ensures { result ≡ some_ends kind walks.now }
+/// Whether some of the ends is of the kind.
+pub(crate) fn some_kind(kind: EndKind, ends: &[WalkEnd]) -> bool
+    ensures { result ≡ some_kind kind ends.now }
 {
-    walks.iter().any(|walk| is_kind(kind, &walk.leaf))
+    ends.iter().any(|one| is_kind(kind, &one.leaf))
 }
 
 /// Whether the end is of the kind.
@@ -72,23 +75,9 @@ fn is_kind(kind: EndKind, leaf: &Leaf) -> bool
     EndKind::of(leaf).number() == kind.number()
 }
 
-/// Whether some walk is rewritten.
-pub(crate) fn some_rewrites(walks: &[Walk]) -> bool
-    ensures { result ≡ some_rewrites walks.now }
+/// Whether some walk with these ends is rewritten.
+pub(crate) fn some_rewritten(ends: &[WalkEnd]) -> bool
+    ensures { result ≡ list_any (λ one. one.rewritten) ends.now }
 {
-    walks.iter().any(|walk| has_rewrite(walk.hops.items()))
-}
-
-/// Whether some hop is a rewrite of the name.
-fn has_rewrite(hops: &[Hop]) -> bool
-    ensures { result ≡ list_any is_rewrite hops.now }
-{
-    hops.iter().any(|hop| is_rewrite(hop))
-}
-
-/// Whether the hop is a rewrite of the name.
-fn is_rewrite(hop: &Hop) -> bool
-    ensures { result ≡ is_rewrite hop.now }
-{
-    matches!(hop, Hop::Rewrite { .. })
+    ends.iter().any(|one| one.rewritten)
 }

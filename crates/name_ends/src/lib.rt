@@ -1,7 +1,7 @@
 //! How the walks of a name end that a query for its address begins.
 //!
-//! The layer above may rest on this: `Asker::ends` gives for the walks of type A and for those of type AAAA of each kind of end
-//! whether some walk ends so, or that there are more walks than are followed, as the definitions say.
+//! The layer above may rest on this: `Asker::ends` gives for the walks of type A and for those of type AAAA of each kind of
+//! end whether some walk ends so, or that there are more walks than are followed, as the definitions say.
 //!
 //! Costs: each name is asked once, by following its walks, of which at most 1,000 of each type.
 #![tactic(auto)]

@@ -1,1 +1,2 @@
 mod OtherRecords
+mod Worked

@@ -1,32 +1,41 @@
 -- How the run of a job ends is how the run of its words ends.
-use Rattle.std.proofs.Common.{◌≡◌, ◌≢◌, ℕ, Bool, true, false, List, [], ◌∷◌, Option, Some, None, Err, sym, subst, inl, inr, refl}
+use Rattle.std.proofs.Common.{◌≡◌, ◌≢◌, ℕ, Bool, true, false, List, [], Option, Some, None, Err, sym, subst, ap, inl, inr, refl}
 use Rattle.std.specs.Prelude.{◌⊎◌, IsTrue, if◌then◌else◌}
 use Rattle.std.specs.List.{list_all, list_any}
 use Rattle.io_edges.specs.Counts.{Rose}
-use Rattle.io_edges.specs.Files.{FilesTold}
+use Rattle.io_edges.specs.Files.{FilesTold, TellsAll}
 use Rattle.zone_map.specs.Loaded.{loaded}
+use Rattle.dns_data.specs.Name.{Labels}
+use Rattle.net_model.specs.declared.config.Config.{Config}
 use Rattle.config_load.specs.Faults.{FailedAt}
 use Rattle.config_load.specs.Load.{FailedWhereItCame, Gives}
 use Rattle.config_load.specs.Reading.{Reading, Reads, Refuses, Misses, Unknown}
 use Rattle.config_load.specs.declared.fault.LoadFault.{LoadFault}
 use Rattle.config_load.specs.declared.fault.LoadFault.TheVariants as load_faults
 use Rattle.config_load.specs.declared.loaded.Loaded.{Loaded}
+use Rattle.run_endings.specs.Runs.{FilesOfRun, OutputOfRun, GotText, Ends as RunEnds}
 use Rattle.run_endings.specs.Ends.{EndsWithout, IsNotLoaded}
-use Rattle.run_endings.specs.Endings.{OfReading, no_memory, writes_nothing}
+use Rattle.run_endings.specs.Endings.{OfReading, no_memory, read_failed, writes_nothing}
 use Rattle.run_endings.specs.declared.ending.Ending.{Ending}
 use Rattle.run_endings.specs.declared.status.Status.{Status}
 use Rattle.run_endings.specs.declared.status.Status.TheVariants.{Clean, Faults, ReadFault, WriteFault}
+use Rattle.name_ends.specs.declared.ends.NameEnds.{NameEnds}
+use Rattle.zone_map.specs.Asked.{ToldByEnds}
 use Rattle.zone_map.specs.JobEnds.{JobEnds}
+use Rattle.zone_map.specs.Aliases.{aliases_of}
+use Rattle.zone_map.specs.Chain.{chain_of}
 use Rattle.zone_map.specs.Copies.{copies_of}
 use Rattle.zone_map.specs.Delegations.{delegations_of}
 use Rattle.zone_map.specs.Lines.{lines_text, with_lines}
-use Rattle.zone_map.specs.Outcome.{TellsAsked, Outcome, IsEnding, JobComesTo, NoJobReadFailed}
+use Rattle.zone_map.specs.Outcome.{TellsAsked, Outcome, JobComesTo, JobOpensNoOther, NoJobReadFailed}
 use Rattle.zone_map.specs.Reached.{reached_text}
+use Rattle.zone_map.specs.Runs.{WritesView}
+use Rattle.zone_map.specs.Words.{job_of}
 use Rattle.zone_map.specs.Servers.{servers_of}
 use Rattle.zone_map.specs.declared.lines.Line.{Line}
-use Rattle.zone_map.specs.Targets.{targets_status, targets_text}
+use Rattle.zone_map.specs.Targets.{targets_of}
 use Rattle.zone_map.specs.declared.words.MapView.{MapView}
-use Rattle.zone_map.specs.declared.words.MapView.TheVariants.{Records, Reached, Targets, Delegations, Copies, Servers}
+use Rattle.zone_map.specs.declared.words.MapView.TheVariants.{Records, Reached, Targets, Delegations, Copies, Servers, Aliases, Chain}
 use Rattle.zone_map.specs.declared.words.MapJob.{MapJob}
 
 -- ---- by what the files give
@@ -86,21 +95,22 @@ module _ (told : FilesTold) (said : Option MapJob) (before after : List ℕ → 
     by true = tt
     by false = tt
 
+  ends_say : (config : Config) (lines : (Labels → NameEnds) → List Line) (ending : Ending) → ToldByEnds config lines ending → SaysSo ending
+  ends_say config lines ending (inl (server, first, is)) = subst SaysSo (sym is) refl
+  ends_say config lines ending (inr tells) = subst SaysSo (sym tells.as_lines) (lines_say (lines tells.ends))
+
   of_asked : (asked : MapView) (all : Loaded) (ending : Ending) → TellsAsked asked all ending → SaysSo ending
   of_asked Records all ending is = subst SaysSo (sym is) tt
   of_asked Reached all ending (inl (server, first, is)) = subst SaysSo (sym is) refl
   of_asked Reached all ending (inr (few, inl (origin, first, is))) = subst SaysSo (sym is) refl
   of_asked Reached all ending (inr (few, inr (none, tells))) = subst SaysSo (sym tells.as_text) (by_test (list_all (λ one. one) tells.told) (reached_text 1 tells.told all.rows))
-  of_asked Targets all ending (inl (server, first, is)) = subst SaysSo (sym is) refl
-  of_asked Targets all ending (inr tells) = subst SaysSo (sym tells.as_text) (by (targets_text tells.ends all) (targets_text tells.ends all)) where
-    by : (text out : List ℕ) → Says (targets_status text) out
-    by [] out = tt
-    by (octet ∷ text) out = tt
-  of_asked Delegations all ending (inl (server, first, is)) = subst SaysSo (sym is) refl
-  of_asked Delegations all ending (inr tells) = subst SaysSo (sym tells.as_lines) (lines_say (delegations_of all tells.ends))
+  of_asked Targets all ending is = ends_say all.config (targets_of all) ending is
+  of_asked Delegations all ending is = ends_say all.config (delegations_of all) ending is
   of_asked Copies all ending is = subst SaysSo (sym is) (lines_say (copies_of all))
-  of_asked Servers all ending (inl (server, first, is)) = subst SaysSo (sym is) refl
-  of_asked Servers all ending (inr tells) = subst SaysSo (sym tells.as_lines) (lines_say (servers_of all tells.ends))
+  of_asked Servers all ending is = ends_say all.config (servers_of all) ending is
+  of_asked Aliases all ending (inl (server, first, is)) = subst SaysSo (sym is) refl
+  of_asked Aliases all ending (inr tells) = subst SaysSo (sym tells.as_lines) (lines_say (aliases_of all tells.told))
+  of_asked Chain all ending is = subst SaysSo (sym is) (lines_say (chain_of all))
 
   of_reading : (meta : List ℕ) (asked : MapView) (ending : Ending) (reading : Reading Loaded) → OfReading meta (TellsAsked asked) reading ending → SaysSo ending
   of_reading meta asked ending (Reads all) tells = of_asked asked all ending tells
@@ -112,10 +122,7 @@ module _ (told : FilesTold) (said : Option MapJob) (before after : List ℕ → 
   of_outcome None ending is = subst SaysSo (sym is) refl
   of_outcome (Some job) ending gives = of_reading job.meta job.asked ending (loaded job.meta told) gives
 
-  module _ (job : MapJob) (is_job : said ≡ Some job) (ending : Ending) (ended : JobEnds told (Some job) before after ending) where
-    ends : JobEnds told said before after ending
-    ends = subst (λ (other : Option MapJob). JobEnds told other before after ending) (sym is_job) ended
-
+  module _ (ending : Ending) (ends : JobEnds told said before after ending) where
     says : SaysSo ending
     says = by ends where
       by : JobEnds told said before after ending → SaysSo ending
@@ -124,31 +131,34 @@ module _ (told : FilesTold) (said : Option MapJob) (before after : List ℕ → 
       by (inr (inr is)) = subst SaysSo (sym is) refl
 
     -- where no read of a job's files failed, its run has the job's outcome, or ends because memory ran out
-    pub complete : NoJobReadFailed told said before after → Outcome told said ending ⊎ (ending ≡ no_memory)
+    complete : NoJobReadFailed told said before after → Outcome told said ending ⊎ (ending ≡ no_memory)
     complete none = by ends where
       by : JobEnds told said before after ending → Outcome told said ending ⊎ (ending ≡ no_memory)
       by (inl outcome) = inl outcome
       by (inr (inl (file, is, comes, rose))) = absurd (none file comes rose)
       by (inr (inr is)) = inr is
 
+    abbrev IsCaused : Type 0
+    IsCaused = Outcome told said ending ⊎ ((file : List ℕ) × (ending ≡ read_failed file)) ⊎ (ending ≡ no_memory)
+
     -- a job's run has the job's outcome, or ends for an unread file or `NoMemory`
-    pub cause : IsEnding told said ending
+    cause : IsCaused
     cause = by ends where
-      by : JobEnds told said before after ending → IsEnding told said ending
+      by : JobEnds told said before after ending → IsCaused
       by (inl outcome) = inl outcome
       by (inr (inl (file, is, comes, rose))) = inr (inl (file, is))
       by (inr (inr is)) = inr (inr is)
 
     -- where a job's run ends for a file that couldn't be read, the job comes to it, and a read of it failed meanwhile
-    pub read_fault : (file : List ℕ) → ending.status ≡ ReadFault file → JobComesTo told said file × Rose (before file) (after file)
+    read_fault : (file : List ℕ) → ending.status ≡ ReadFault file → JobComesTo told said file × Rose (before file) (after file)
     read_fault file is = (subst (λ (status : Status). Says status ending.out) is says).0
 
     -- no job's run ends since something couldn't be written
-    pub no_write_fault : ending.status ≢ WriteFault
+    no_write_fault : ending.status ≢ WriteFault
     no_write_fault is = subst (λ (status : Status). Says status ending.out) is says
 
     -- where a job's run ends with a status that writes nothing, it prints nothing
-    pub silent : IsTrue (writes_nothing ending.status) → ending.out ≡ []
+    silent : IsTrue (writes_nothing ending.status) → ending.out ≡ []
     silent = by ending.status says where
       by : (status : Status) → Says status ending.out → IsTrue (writes_nothing status) → ending.out ≡ []
       by Clean said nothing = absurd (cc)
@@ -156,6 +166,21 @@ module _ (told : FilesTold) (said : Option MapJob) (before after : List ℕ → 
       by (ReadFault file) said nothing = said.1
       by WriteFault said nothing = absurd said
       by other said nothing = said
+
+    -- How a job's run ends is how the run of its words ends; what was told from the start, and what else was opened, is
+    -- handed on.
+    pub as_asked : (told_before : FilesTold) → (TellsAll told_before → told ≡ told_before) → JobOpensNoOther told_before told said
+        → RunEnds (λ files. Outcome files said) (λ files. JobComesTo files said)
+        (record { told_before = told_before; told_after = told; failed_before = before; failed_after = after }) ending
+    as_asked told_before from_the_start opens = record {
+      complete = complete;
+      cause = cause;
+      read_fault = read_fault;
+      no_write_fault = no_write_fault;
+      silent = silent;
+      from_the_start = from_the_start;
+      opens = opens;
+    }
 
 -- ---- what is told of what was read
 
@@ -165,3 +190,14 @@ pub told_of_read : (told : FilesTold) (said : Option MapJob) (job : MapJob) (all
 told_of_read told said job all ending is reads outcome =
     subst (λ (read : Reading Loaded). OfReading job.meta (TellsAsked job.asked) read ending) reads
     (subst (λ (other : Option MapJob). Outcome told other ending) is outcome)
+
+-- A run that is asked for a view of what was read writes what the view gives, where its text was written whole; or memory
+-- ran out.
+pub view_written : (view : MapView) (words : List (List ℕ)) (files : FilesOfRun) (out : OutputOfRun) (ending : Ending)
+    → RunEnds (λ told. Outcome told (job_of words)) (λ told. JobComesTo told (job_of words)) files ending → GotText out ending.out
+    → WritesView view (TellsAsked view) words files out ending.status
+view_written view words files out ending ends got meta all job reads none quiet =
+    elim (ends.complete none) [
+      | inl outcome ↦ inl (ending, told_of_read files.told_after (job_of words) (record { asked = view; meta = meta }) all ending job reads outcome, refl, got)
+      | inr ran_out ↦ inr (ap (λ (one : Ending). one.status) ran_out)
+    ]

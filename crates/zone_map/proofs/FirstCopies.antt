@@ -20,6 +20,7 @@ use Rattle.zone_copies.specs.Versions.{octets_cmp}
 use Rattle.zone_map.specs.Copies.{copy_lines, equal_versions, is_equal_copy, line_beside, row_version}
 use Rattle.zone_map.specs.FirstCopies.{KnowsCopies, KnowsFirsts, has_key, has_origin, key_cmp, key_of, known_lines}
 use Rattle.zone_map.specs.declared.versions.CopyKey.{CopyKey}
+use Rattle.alias_ends.proofs.KnownAnswers.{both_equal}
 use Rattle.zone_map.proofs.RowsBefore.{found_last, found_still}
 
 -- a map without entries knows of no row
@@ -127,12 +128,6 @@ none_equal config known empty row = by (row_version config row) where
   by : (version : Option Version) → false ≡ has_key known row version
   by None = refl
   by (Some version) = ap (λ (keys : List CopyKey). list_any (λ (key : CopyKey). is_eq (key_cmp (key_of row version) key)) keys) (sym empty)
-
--- two comparisons in a row find no difference exactly if neither does
-both_equal : (o p : Ordering) → is_eq (ordering_then o p) ≡ (is_eq o && is_eq p)
-both_equal Less p = refl
-both_equal Equal p = refl
-both_equal Greater p = refl
 
 -- whether two keys are one
 keys_equal : (one other : CopyKey) → is_eq (key_cmp one other) ≡ (name_eq other.origin one.origin && strings_eq other.others one.others)

@@ -2,7 +2,9 @@ pub mod AnsweredRows
 mod RowsBefore
 mod FirstCopies
 mod SideLines
+mod ListedNames
 mod NamingLists
+mod OneOutcome
 pub mod ColumnTexts
 pub mod Endings
 pub mod ReachedViews
@@ -10,5 +12,3 @@ pub mod SeenRows
 pub mod ShownOrigins
 mod TwoTypes
 mod Worked
-pub mod KnownTargets
-pub mod TargetWalks

@@ -1,6 +1,6 @@
 -- The lines of the faults that the zones at both sides of a zone cut show.
-use Rattle.std.proofs.Common.{◌≡◌, Bool, true, false, ◌&&◌, ◌||◌, not, List, [], ◌∷◌, ◌++◌, cond, map, Bor, refl, ap, ◌∙◌}
-use Rattle.std.specs.List.{flat_map, list_any}
+use Rattle.std.proofs.Common.{◌≡◌, Bool, true, false, ◌&&◌, not, List, [], ◌++◌, cond, refl, ap, ◌∙◌}
+use Rattle.std.specs.List.{flat_map}
 use Rattle.dns_data.specs.Name.{Labels, is_prefix}
 use Rattle.net_model.specs.declared.config.Config.{Config}
 use Rattle.net_model.specs.declared.config.Zone.{Zone}
@@ -58,8 +58,3 @@ module _ (config : Config) (row : RowFiles) (zone : Zone) (cut ns : Labels) wher
   side_faults inside =
       ap (flat_map (fault_line row zone cut ns)) (inside_faults (is_prefix zone.origin cut) inside (referral_faults config no_deps place))
       ∙ lines_shown (zones_differ config place) (wants_glue config place) (addresses_differ config place) (depends_on_itself config no_deps place) never_cyclic
-
--- a test passes for a name behind a reference exactly if it does for one of the names
-pub any_behind : (test : Labels → Bool) (names : List (Bor Labels)) → list_any (λ name. test name.now) names ≡ list_any test (map (λ name. name.now) names)
-any_behind test [] = refl
-any_behind test (name ∷ names) = ap (λ (b : Bool). test name.now || b) (any_behind test names)

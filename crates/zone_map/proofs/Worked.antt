@@ -1,21 +1,24 @@
 -- Values of the definitions that were worked out by hand.
-use Rattle.std.proofs.Common.{◌≡◌, ℕ, true, false, List, [], ◌∷◌, ◌++◌, map, codes, Some, None, refl}
+use Rattle.std.proofs.Common.{◌≡◌, ℕ, true, false, List, [], ◌∷◌, ◌++◌, map, codes, Option, Some, None, refl}
 use Rattle.std.specs.Fmt.{digits}
 use Rattle.dns_data.specs.Name.{Labels}
-use Rattle.dns_data.specs.declared.rdata.Rdata.TheVariants.{A, Mx, Ns, Other, Srv}
+use Rattle.dns_data.specs.declared.rdata.Rdata.TheVariants.{A, Mx, Ns, Other, Ptr, Srv}
 use Rattle.dns_data.specs.declared.rdata.Rr.{Rr}
 use Rattle.net_model.specs.declared.config.Config.{Config}
+use Rattle.net_model.specs.declared.config.Zone.{Zone}
 use Rattle.net_model.specs.declared.walk.Leaf.{Leaf}
 use Rattle.net_model.specs.declared.walk.Leaf.TheVariants as leaves
 use Rattle.net_model.specs.declared.walk.Walk.{Walk}
 use Rattle.master_read.specs.Words.{other_words}
 use Rattle.config_load.specs.declared.loaded.RowFiles.{RowFiles}
 use Rattle.kept_data.specs.Numbers.{type_words}
+use Rattle.name_ends.specs.Ends.{ends_among}
+use Rattle.name_ends.specs.declared.ends.NameEnds.{NameEnds}
+use Rattle.name_ends.specs.declared.ends.TypeEnds.{TypeEnds}
 use Rattle.zone_map.specs.Columns.{file_text, columns_line, as_written}
 use Rattle.zone_map.specs.Records.{records_text, told_data, type_text}
-use Rattle.zone_map.specs.Targets.{dead_ends, is_reverse, target_in, targets_text}
+use Rattle.zone_map.specs.Targets.{is_reverse, kinds_text, leads_nowhere, leads_partly, target_in, targets_of}
 use Rattle.zone_map.specs.Words.{job_of}
-use Rattle.zone_map.specs.declared.target_ends.DeadEnds.TheVariants as dead
 use Rattle.zone_map.specs.declared.words.MapView.TheVariants.{Records, Targets}
 
 -- Tabs, line feeds and backslashes of a file's name are escaped.
@@ -30,6 +33,14 @@ columns = refl
 
 token : as_written (92 ∷ 35 ∷ 7 ∷ []) ≡ codes "\\#\\007"
 token = refl
+
+-- A backslash before such an octet isn't written besides that of the digits, but one that a backslash escapes is.
+
+escaped_space : as_written (codes "a\\ b") ≡ codes "a\\032b"
+escaped_space = refl
+
+escaped_backslash : as_written (codes "a\\\\ b") ≡ codes "a\\\\\\032b"
+escaped_backslash = refl
 
 other_type : type_text (Other (codes "DS") (codes "1" ∷ codes "x y" ∷ [])) ≡ codes "DS"
 other_type = refl
@@ -75,27 +86,39 @@ both_rows : records_text (record { config = config; rows = rows }) ≡ lines
 unfolding digits t s mail host config rows lines
 both_rows = refl
 
--- Targets that count.
+-- Targets that are looked at.
 
-mail_counts : target_in [] [] t mail.rdata ≡ Some (codes "t" ∷ codes "m" ∷ [])
+-- a zone without records
+below : Labels → Zone
+below origin = record { origin = origin; rrs = [] }
+
+mail_counts : target_in (below []) t mail.rdata ≡ Some (codes "t" ∷ codes "m" ∷ [])
 unfolding mail
 mail_counts = refl
 
-no_mail : target_in [] [] t (Mx 0 []) ≡ None
+no_mail : target_in (below []) t (Mx 0 []) ≡ None
 unfolding t
 no_mail = refl
 
-no_service : target_in [] [] t (Srv 0 0 0 []) ≡ None
+no_service : target_in (below []) t (Srv 0 0 0 []) ≡ None
 unfolding t
 no_service = refl
 
-name_server_of_no_zone : target_in ([] ∷ []) [] t (Ns s) ≡ None
-unfolding t s
+name_server_of_no_zone : target_in (below s) t (Ns s) ≡ None
+unfolding t s below
 name_server_of_no_zone = refl
 
-name_server_of_a_zone : target_in ([] ∷ t ∷ []) [] t (Ns s) ≡ Some s
-unfolding t s
+name_server_of_a_zone : target_in (below t) t (Ns s) ≡ Some s
+unfolding t s below
 name_server_of_a_zone = refl
+
+pointer_in_a_reverse_zone : target_in (below (codes "arpa" ∷ codes "ip6" ∷ [])) t (Ptr s) ≡ Some s
+unfolding t s below
+pointer_in_a_reverse_zone = refl
+
+pointer_elsewhere : target_in (below []) t (Ptr s) ≡ None
+unfolding t s below
+pointer_elsewhere = refl
 
 reverse : is_reverse (codes "arpa" ∷ codes "ip6" ∷ codes "1" ∷ []) ≡ true
 reverse = refl
@@ -108,26 +131,42 @@ above_reverse = refl
 end_in : Leaf → Walk
 end_in leaf = record { states = []; hops = []; leaf = leaf }
 
-either : dead_ends (end_in leaves.NxDomain ∷ end_in leaves.NoData ∷ []) ≡ Some dead.Either
+-- what is told of walks with these ends
+ends_of : List Leaf → NameEnds
+ends_of leaves = record { four = Some (ends_among (map end_in leaves)); six = Some (ends_among []) }
+
+either : kinds_text (ends_among (map end_in (leaves.NxDomain ∷ leaves.NoData ∷ []))) ≡ codes "nodata,nxdomain"
 unfolding end_in
 either = refl
 
-elsewhere : dead_ends (end_in leaves.NxDomain ∷ end_in leaves.Outside ∷ []) ≡ None
-unfolding end_in
-elsewhere = refl
+nowhere : leads_nowhere (ends_of (leaves.NxDomain ∷ leaves.NoData ∷ [])) ≡ true
+unfolding end_in ends_of
+nowhere = refl
+
+partly_elsewhere : leads_partly (ends_of (leaves.NxDomain ∷ leaves.Outside ∷ [])) ≡ true
+unfolding end_in ends_of
+partly_elsewhere = refl
+
+all_elsewhere : leads_partly (ends_of (leaves.Outside ∷ [])) ≡ false
+unfolding end_in ends_of
+all_elsewhere = refl
 
 -- The line of a record whose target leads nowhere; the two rows have one.
 
 dead_line : List ℕ
 dead_line = codes "s." ++ 9 ∷ codes "t." ++ 9 ∷ codes "t." ++ 9 ∷ codes "MX" ++ 9 ∷ codes "mail.inc" ++ 9 ∷ codes "12" ++ 9 ∷ codes "5 m.t." ++ 9
-    ∷ codes "m.t." ++ 9 ∷ codes "nxdomain" ++ 9 ∷ codes "too many walks" ++ 10 ∷ []
+    ∷ codes "m.t." ++ 9 ∷ codes "nxdomain" ++ 9 ∷ codes "too many walks" ++ 9 ∷ codes "nowhere" ++ 10 ∷ []
 
-one_line : targets_text (λ name. record { four = Some dead.NxDomain; six = Some dead.TooMany }) (record { config = config; rows = rows }) ≡ dead_line
-unfolding digits t s mail host config rows dead_line
+-- the ends of walks that end in no such name
+no_such_name : Option TypeEnds
+no_such_name = Some (ends_among (end_in leaves.NxDomain ∷ []))
+
+one_line : targets_of (record { config = config; rows = rows }) (λ name. record { four = no_such_name; six = None }) ≡ record { counts = true; text = dead_line } ∷ []
+unfolding digits t s mail host config rows dead_line no_such_name end_in
 one_line = refl
 
-no_line : targets_text (λ name. record { four = Some dead.NxDomain; six = None }) (record { config = config; rows = rows }) ≡ []
-unfolding digits t s mail host config rows
+no_line : targets_of (record { config = config; rows = rows }) (λ name. ends_of (leaves.Outside ∷ [])) ≡ []
+unfolding digits t s mail host config rows end_in ends_of
 no_line = refl
 
 -- Words.

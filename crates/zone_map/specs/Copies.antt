@@ -1,5 +1,5 @@
 -- The copies of zones: how each stands to the first with its origin.
-use Rattle.std.specs.Prelude.{ℕ, ◌+◌, Bool, true, false, ◌&&◌, not, List, [], ◌∷◌, length, codes, decimal, Option, Some, option_map}
+use Rattle.std.specs.Prelude.{ℕ, ◌+◌, Bool, true, false, ◌&&◌, not, List, [], ◌∷◌, length, codes, decimal, Option, Some, option_map, if◌then◌else◌}
 use Rattle.std.specs.List.{find, list_any}
 use Rattle.std.specs.Option.{option_map_or}
 use Rattle.dns_data.specs.Name.{name_eq}
@@ -74,3 +74,11 @@ is_equal_copy config row other = has_origin_of row other && equal_versions (row_
 -- no earlier row's zone is an equal copy
 abbrev pub is_first_copy : Config → List RowFiles → RowFiles → Bool
 is_first_copy config before row = not (list_any (is_equal_copy config row) before)
+
+-- the row, if no earlier row's zone is an equal copy
+abbrev pub if_first_copy : Config → List RowFiles → RowFiles → List RowFiles
+if_first_copy config before row = if is_first_copy config before row then row ∷ [] else []
+
+-- the rows of which no earlier one's zone is an equal copy, in order
+abbrev pub first_copies : Config → List RowFiles → List RowFiles
+first_copies config rows = by_earlier (if_first_copy config) [] rows

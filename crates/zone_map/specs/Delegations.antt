@@ -43,8 +43,8 @@ abbrev pub ns_counts : NsWord → Bool
 ns_counts GlueOnly = false
 ns_counts word = true
 
--- the columns of a line: a word, the server, the zone, the cut, a name server, and the file and the line of the NS record that
--- names another
+-- the columns of a line: a word, the server, the zone, the cut, a name server, and the file and the line of the NS record
+-- that names another
 abbrev pub ns_columns : List ℕ → RowFiles → Zone → Labels → Labels → Labels → List (List ℕ)
 ns_columns word row zone cut ns other =
     word ∷ name_text row.server ∷ name_text row.origin ∷ name_text cut ∷ name_text ns ∷ place_columns row (ns_record zone cut other)
@@ -66,8 +66,8 @@ side_lines config row zone cut ns =
     ++ (ns_line row zone cut ns (wants_glue config (place_at row zone cut ns)) NoGlue
     ++ ns_line row zone cut ns (addresses_differ config (place_at row zone cut ns)) GlueDiffers))
 
--- The line of a name server of a zone cut that is dead, if it is. One counts that has no glue; one that has some can be asked
--- all the same, and it is the delegated zone that lacks its address.
+-- The line of a name server of a zone cut that is dead, if it is. One counts that has no glue; one that has some can be
+-- asked all the same, and it is the delegated zone that lacks its address.
 abbrev pub dead_lines : Bool → RowFiles → Zone → Labels → Labels → List Line
 dead_lines dead row zone cut ns =
     ns_line row zone cut ns (dead && not (is_glued zone ns)) Dead ++ ns_line row zone cut ns (dead && is_glued zone ns) GlueOnly

@@ -5,11 +5,13 @@ use Rattle.config_load.specs.declared.loaded.Loaded.{Loaded}
 use Rattle.name_ends.specs.declared.ends.NameEnds.{NameEnds}
 use Rattle.zone_map.specs.Delegations.{delegations_of}
 use Rattle.zone_map.specs.Servers.{servers_of}
+use Rattle.zone_map.specs.Targets.{targets_of}
 use Rattle.zone_map.specs.declared.by_ends.EndsWord.{EndsWord}
 use Rattle.zone_map.specs.declared.by_ends.EndsWord.TheVariants as words
 use Rattle.zone_map.specs.declared.lines.Line.{Line}
 
 -- the lines of a word, by how the walks of each name end
 abbrev pub lines_by : EndsWord → Loaded → (Labels → NameEnds) → List Line
+lines_by words.Targets all = targets_of all
 lines_by words.Delegations all = delegations_of all
 lines_by words.Servers all = servers_of all

@@ -10,11 +10,13 @@ pub mod Lines
 pub mod Asked
 pub mod Copies
 pub mod FirstCopies
+pub mod NameLists
 pub mod RowZones
 pub mod Delegations
 pub mod SideFaults
 pub mod Servers
 pub mod Namings
+pub mod Chain
 pub mod Records
 pub mod Rewrites
 pub mod Reached
@@ -22,8 +24,9 @@ pub mod ReachedRows
 pub mod Limits
 pub mod ShownOrigins
 pub mod Targets
-pub mod TargetsAsked
+pub mod Aliases
 pub mod Words
 pub mod Outcome
+pub mod Runs
 pub mod EndsWords
 pub mod JobEnds

@@ -37,6 +37,6 @@ abbrev pub with_lines : List Line → Ending
 with_lines lines = with_output (lines_status lines) (lines_text lines)
 
 -- what is told of rows, of each by those before it
-abbrev pub by_earlier : (List RowFiles → RowFiles → List Line) → List RowFiles → List RowFiles → List Line
+abbrev pub by_earlier : {A : Type 0} → (List RowFiles → RowFiles → List A) → List RowFiles → List RowFiles → List A
 by_earlier tell before [] = []
 by_earlier tell before (row ∷ rows) = tell before row ++ by_earlier tell (before ++ row ∷ []) rows

@@ -5,9 +5,11 @@ use Rattle.io_edges.specs.Files.{FilesTold}
 use Rattle.zone_map.specs.Loaded.{loaded}
 use Rattle.config_load.specs.Load.{ComesToFile}
 use Rattle.config_load.specs.declared.loaded.Loaded.{Loaded}
-use Rattle.run_endings.specs.Endings.{OfReading, with_output, without_output, read_failed, no_memory}
+use Rattle.run_endings.specs.Endings.{OfReading, with_output, without_output}
 use Rattle.run_endings.specs.declared.ending.Ending.{Ending}
 use Rattle.run_endings.specs.declared.status.Status.TheVariants.{Clean, Usage}
+use Rattle.zone_map.specs.Aliases.{IsAliases}
+use Rattle.zone_map.specs.Chain.{chain_of}
 use Rattle.zone_map.specs.Copies.{copies_of}
 use Rattle.zone_map.specs.Delegations.{IsDelegations}
 use Rattle.zone_map.specs.Limits.{WithinLimits}
@@ -18,12 +20,13 @@ use Rattle.zone_map.specs.Servers.{IsServers}
 use Rattle.zone_map.specs.Targets.{IsTargets}
 use Rattle.zone_map.specs.Words.{usage_line}
 use Rattle.zone_map.specs.declared.words.MapView.{MapView}
-use Rattle.zone_map.specs.declared.words.MapView.TheVariants.{Records, Reached, Targets, Delegations, Copies, Servers}
+use Rattle.zone_map.specs.declared.words.MapView.TheVariants.{Records, Reached, Targets, Delegations, Copies, Servers, Aliases, Chain}
 use Rattle.zone_map.specs.declared.words.MapJob.{MapJob}
 
 -- what a view prints of a configuration: for `records` the lines of all records, for `reached` the lines of all rows,
 -- for `targets` the lines of the records whose target leads nowhere, for `delegations` those of the zone cuts and origins at
--- which something is told, for `copies` those of all copies, for `servers` those of all names of name servers
+-- which something is told, for `copies` those of all copies, for `servers` those of all names of name servers, for `aliases` those of the aliases
+-- for whose target their server answers otherwise, for `chain` those of DS records and keys
 abbrev pub TellsAsked : MapView → Loaded → Ending → Type 0
 TellsAsked Records all ending = ending ≡ with_output Clean (records_text all)
 TellsAsked Reached all ending = WithinLimits all.config all.rows (TellsRows all.config all.rows ending) ending
@@ -31,15 +34,13 @@ TellsAsked Targets all ending = IsTargets all ending
 TellsAsked Delegations all ending = IsDelegations all ending
 TellsAsked Copies all ending = ending ≡ with_lines (copies_of all)
 TellsAsked Servers all ending = IsServers all ending
+TellsAsked Aliases all ending = IsAliases all ending
+TellsAsked Chain all ending = ending ≡ with_lines (chain_of all)
 
 -- what the words' job gives, by what is told of the files
 abbrev pub Outcome : FilesTold → Option MapJob → Ending → Type 0
 Outcome told None ending = ending ≡ without_output Usage usage_line
 Outcome told (Some job) ending = OfReading job.meta (TellsAsked job.asked) (loaded job.meta told) ending
-
--- a run ends in the outcome of its job, in a failed read or because memory ran out
-abbrev pub IsEnding : FilesTold → Option MapJob → Ending → Type 0
-IsEnding told job ending = Outcome told job ending ⊎ ((file : List ℕ) × (ending ≡ read_failed file)) ⊎ (ending ≡ no_memory)
 
 -- The job comes to the file: every step of its reading before gives no refusal, and comes to no opened name that isn't
 -- held.

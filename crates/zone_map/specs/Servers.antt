@@ -66,8 +66,8 @@ abbrev pub first_place : List Naming → List (List ℕ)
 first_place [] = [] ∷ [] ∷ []
 first_place (naming ∷ namings) = naming.place
 
--- the word of a name server's name: nothing names it; it is dead; it is configured; it isn't, though some walk of it ends in
--- an address; or it is served elsewhere
+-- the word of a name server's name: nothing names it; it is dead; it is configured; it isn't, though some walk of it ends
+-- in an address; or it is served elsewhere
 abbrev pub server_word : NameEnds → Bool → Bool → ServerWord
 server_word ends configured unnamed =
     if unnamed then Unnamed

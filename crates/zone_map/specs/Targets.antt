@@ -1,144 +1,133 @@
--- Targets that lead nowhere: names that MX, SRV, NS and PTR records give to a host, of which no query finds an address,
--- though every walk for one ends in no data or in no such name. A name with more than 1,000 walks of a type isn't looked
--- at, and is told too.
-use Rattle.std.specs.Prelude.{◌≡◌, ◌⊎◌, ℕ, Bool, true, false, ◌&&◌, ◌||◌, List, [], ◌∷◌, ◌++◌, length, map, codes, Option, Some, None, if◌then◌else◌, ◌==◌}
-use Rattle.std.specs.List.{flat_map, list_all, list_any}
+-- Targets of records by which no host is found: names that MX, SRV, NS and PTR records give to a host.
+use Rattle.std.specs.Prelude.{ℕ, Bool, true, false, ◌&&◌, ◌||◌, not, List, [], ◌∷◌, ◌++◌, length, codes, Option, Some, None, if◌then◌else◌, ◌==◌}
+use Rattle.std.specs.List.{flat_map}
 use Rattle.std.specs.Option.{option_map_or}
-use Rattle.dns_data.specs.Name.{Labels, name_eq}
-use Rattle.dns_data.specs.Rdata.{octets_eq}
+use Rattle.dns_data.specs.DataText.{separated}
+use Rattle.dns_data.specs.Name.{Labels}
+use Rattle.dns_data.specs.Rdata.{has_type, octets_eq}
 use Rattle.dns_data.specs.Spelling.{name_text}
 use Rattle.dns_data.specs.declared.rdata.Rdata.{Rdata}
 use Rattle.dns_data.specs.declared.rdata.Rdata.TheVariants.{Mx, Srv, Ns, Ptr}
 use Rattle.dns_data.specs.declared.rdata.Rr.{Rr}
-use Rattle.dns_data.specs.declared.rr_type.RrType.{RrType}
 use Rattle.dns_data.specs.declared.rr_type.RrType.TheVariants as types
 use Rattle.net_model.specs.declared.config.Config.{Config}
-use Rattle.net_model.specs.declared.walk.Leaf.{Leaf}
-use Rattle.net_model.specs.declared.walk.Leaf.TheVariants as leaves
-use Rattle.net_model.specs.declared.walk.Walk.{Walk}
-use Rattle.net_model.specs.Learnt.{IsInForce}
-use Rattle.net_model.specs.Step.{Setting, following}
-use Rattle.net_model.specs.Walk.{AreWalks}
-use Rattle.plain_resolver.specs.Passed.{HasMoreWalks, NoneInRounds, IsFirstWithTooMany, most_walks_followed}
+use Rattle.net_model.specs.declared.config.Zone.{Zone}
+use Rattle.net_model.specs.Nearest.{held_zone}
 use Rattle.config_load.specs.declared.loaded.Loaded.{Loaded}
 use Rattle.config_load.specs.declared.loaded.RowFiles.{RowFiles}
-use Rattle.run_endings.specs.Endings.{too_many_to_learn, with_output}
 use Rattle.run_endings.specs.declared.ending.Ending.{Ending}
-use Rattle.run_endings.specs.declared.status.Status.{Status}
-use Rattle.run_endings.specs.declared.status.Status.TheVariants.{Clean, Faults}
-use Rattle.zone_map.specs.Columns.{columns_line}
-use Rattle.zone_map.specs.Records.{record_columns, records_of}
-use Rattle.zone_map.specs.Rewrites.{most_rewrites}
-use Rattle.zone_map.specs.declared.target_ends.DeadEnds.{DeadEnds}
-use Rattle.zone_map.specs.declared.target_ends.DeadEnds.TheVariants.{NoData, NxDomain, Either, TooMany}
-use Rattle.zone_map.specs.declared.target_ends.TargetEnds.{TargetEnds}
+use Rattle.zone_cuts.specs.Cuts.{has_servers}
+use Rattle.name_ends.specs.Ends.{is_alias, only_dead}
+use Rattle.name_ends.specs.declared.ends.NameEnds.{NameEnds}
+use Rattle.name_ends.specs.declared.ends.TypeEnds.{TypeEnds}
+use Rattle.zone_map.specs.Asked.{ToldByEnds}
+use Rattle.zone_map.specs.Lines.{line_of}
+use Rattle.zone_map.specs.Records.{record_columns}
+use Rattle.zone_map.specs.declared.lines.Line.{Line}
 
--- how many walks of a target with one type are followed at most
-abbrev pub most_target_walks : ℕ
-most_target_walks = 1000
-
--- ---- which targets count
+-- ---- which targets are looked at
 
 -- the name is at or below in-addr.arpa. or ip6.arpa. (RFC 1035 section 3.5, RFC 3596 section 2.5)
 abbrev pub is_reverse : Labels → Bool
 is_reverse (top ∷ next ∷ below) = octets_eq top (codes "arpa") && (octets_eq next (codes "in-addr") || octets_eq next (codes "ip6"))
 is_reverse name = false
 
--- the origins of the zones that are served: those of the rows
-abbrev pub origins_of : List RowFiles → List Labels
-origins_of rows = map (λ row. row.origin) rows
-
 -- the host of a mail exchange or a service; the root says that there is none (RFC 7505 section 3, RFC 2782)
 abbrev pub host_of : Labels → Option Labels
 host_of name = if length name == 0 then None else Some name
 
--- The target of a record that counts, in a zone with this origin, by its owner and data: the host of a mail exchange and of
--- a service, that of a pointer in a reverse zone, and that of a name server whose zone, be it this one or one below a cut,
--- is among those that are served (RFC 1035 sections 3.3.9, 3.3.11 and 3.3.12, RFC 2782).
-abbrev pub target_in : List Labels → Labels → Labels → Rdata → Option Labels
-target_in served origin owner (Mx preference exchange) = host_of exchange
-target_in served origin owner (Srv priority weight port target) = host_of target
-target_in served origin owner (Ns target) = if list_any (name_eq owner) served then Some target else None
-target_in served origin owner (Ptr target) = if is_reverse origin then Some target else None
-target_in served origin owner rdata = None
+-- The target of a record of a zone that is looked at, by its owner and data: the host of a mail exchange and of a service,
+-- that of a pointer in a reverse zone, and that of a name server of the origin or of a zone cut (RFC 1035 sections 3.3.9,
+-- 3.3.11 and 3.3.12, RFC 2782).
+abbrev pub target_in : Zone → Labels → Rdata → Option Labels
+target_in zone owner (Mx preference exchange) = host_of exchange
+target_in zone owner (Srv priority weight port target) = host_of target
+target_in zone owner (Ns target) = if has_servers zone owner then Some target else None
+target_in zone owner (Ptr target) = if is_reverse zone.origin then Some target else None
+target_in zone owner rdata = None
 
 -- ---- how the walks of a target end
 
--- the end is no data (RFC 2308 section 2.2)
-abbrev pub is_no_data : Leaf → Bool
-is_no_data leaves.NoData = true
-is_no_data leaf = false
+-- the word of a kind of end, if some walk ends so
+abbrev pub word_if : Bool → List ℕ → List (List ℕ)
+word_if some word = if some then word ∷ [] else []
 
--- the end is no such name (RFC 2308 section 2.1)
-abbrev pub is_no_name : Leaf → Bool
-is_no_name leaves.NxDomain = true
-is_no_name leaf = false
+-- the words of the kinds of ends, each with whether some walk ends so, in the order in which they are told
+abbrev pub kinds_told : TypeEnds → List (Bool × List ℕ)
+kinds_told ends =
+    (ends.answer, codes "answer") ∷ (ends.no_data, codes "nodata") ∷ (ends.no_name, codes "nxdomain") ∷ (ends.outside, codes "outside")
+    ∷ (ends.unhosted, codes "unhosted") ∷ (ends.lame, codes "lame") ∷ (ends.no_address, codes "no-address") ∷ (ends.limit, codes "limit")
+    ∷ (ends.overlong, codes "overlong") ∷ []
 
--- how walks end: all in no data, all in no such name, or each in one of the two; it is none of these where one ends
--- otherwise
-abbrev pub dead_ends : List Walk → Option DeadEnds
-dead_ends walks =
-    if list_all (λ walk. is_no_data walk.leaf) walks then Some NoData
-    else (if list_all (λ walk. is_no_name walk.leaf) walks then Some NxDomain
-    else (if list_all (λ walk. is_no_data walk.leaf || is_no_name walk.leaf) walks then Some Either else None))
+-- the words of the kinds of ends that some walk has, with a comma between: as `ask` has them
+abbrev pub kinds_text : TypeEnds → List ℕ
+kinds_text ends = separated (codes ",") (flat_map (λ one. word_if one.0 one.1) (kinds_told ends))
 
--- the ends are those of all walks of the name with the type, or say that there are more walks than are followed
-abbrev pub EndSo : Setting → Labels → RrType → Option DeadEnds → Type 0
-EndSo setting name rtype ends =
-    (HasMoreWalks setting name rtype most_target_walks × (ends ≡ Some TooMany))
-    ⊎ ((HasMoreWalks setting name rtype most_target_walks → ⊥)
-    × ((walks : List Walk) × AreWalks setting name rtype walks × (ends ≡ dead_ends walks)))
+-- the ends of the walks of a type, or that there are more walks than are followed
+abbrev pub type_ends_text : Option TypeEnds → List ℕ
+type_ends_text None = codes "too many walks"
+type_ends_text (Some ends) = kinds_text ends
 
--- the ends are those of the name's walks of type A and of type AAAA
-pub record AreTargetEnds (setting : Setting) (name : Labels) (ends : TargetEnds) : Type 0 where
-  pub four : EndSo setting name types.A ends.four
-  pub six : EndSo setting name types.Aaaa ends.six
+-- no walk of a type is known that ends otherwise than in no data or in no such name
+abbrev pub seems_dead : Option TypeEnds → Bool
+seems_dead None = true
+seems_dead (Some ends) = only_dead ends
+
+-- the name leads nowhere: of both types each walk ends in no data or in no such name, or there are more than are followed
+abbrev pub leads_nowhere : NameEnds → Bool
+leads_nowhere ends = seems_dead ends.four && seems_dead ends.six
+
+-- some walk ends in no data or in no such name
+abbrev pub ends_dead : TypeEnds → Bool
+ends_dead ends = ends.no_data || ends.no_name
+
+-- of both types no walk ends in an answer, and some walk ends in no data or in no such name
+abbrev pub are_partly_dead : Option TypeEnds → Option TypeEnds → Bool
+are_partly_dead (Some four) (Some six) = not (four.answer || six.answer) && (ends_dead four || ends_dead six)
+are_partly_dead four six = false
+
+-- some walk that leads out of what is configured may find the name, and none inside does
+abbrev pub leads_partly : NameEnds → Bool
+leads_partly ends = not (leads_nowhere ends) && are_partly_dead ends.four ends.six
+
+-- the data are a pointer
+abbrev pub is_pointer : Rdata → Bool
+is_pointer rdata = has_type types.Ptr rdata
+
+-- the data name a name server
+abbrev pub is_name_server : Rdata → Bool
+is_name_server rdata = has_type types.Ns rdata
 
 -- ---- the lines
 
--- the word of ends: those of the ends of a walk, as `ask` has them, or that there are too many
-abbrev pub ends_word : DeadEnds → List ℕ
-ends_word NoData = codes "nodata"
-ends_word NxDomain = codes "nxdomain"
-ends_word Either = codes "nodata,nxdomain"
-ends_word TooMany = codes "too many walks"
+-- the columns of a line before its word: those of the record, the target, the ends of its walks of type A and of type AAAA
+abbrev pub target_columns : RowFiles → Rr → Labels → NameEnds → List (List ℕ)
+target_columns row rr target ends = record_columns row rr ++ name_text target ∷ type_ends_text ends.four ∷ type_ends_text ends.six ∷ []
 
--- the line of a record whose target's walks of type A and of type AAAA end so; none where one of them ends otherwise
-abbrev pub target_line : RowFiles → Rr → Labels → Option DeadEnds → Option DeadEnds → List ℕ
-target_line row rr target (Some four) (Some six) =
-    columns_line (record_columns row rr ++ name_text target ∷ ends_word four ∷ ends_word six ∷ [])
-target_line row rr target four six = []
+-- the line of a word, if it holds
+abbrev pub target_line : Bool → Bool → List (List ℕ) → List ℕ → List Line
+target_line holds counts columns word = if holds then line_of counts (columns ++ word ∷ []) ∷ [] else []
 
--- the line of a record, by how the walks of each name end
-abbrev pub line_by : (Labels → TargetEnds) → List Labels → RowFiles → Rr → List ℕ
-line_by ends served row rr =
-    option_map_or (λ target. target_line row rr target (ends target).four (ends target).six)
-    (target_in served row.origin rr.owner rr.rdata) []
+-- the lines of a record and its target. No name server may be an alias (RFC 2181 section 10.3); of a mail exchange and a
+-- service it is only told (RFC 2782).
+abbrev pub target_lines : RowFiles → Rr → Labels → NameEnds → List Line
+target_lines row rr target ends =
+    target_line (leads_nowhere ends) true (target_columns row rr target ends) (codes "nowhere")
+    ++ (target_line (leads_partly ends) false (target_columns row rr target ends) (codes "partly")
+    ++ target_line (is_alias ends && not (is_pointer rr.rdata)) (is_name_server rr.rdata) (target_columns row rr target ends) (codes "alias"))
+
+-- the lines of a record of a row's zone
+abbrev pub record_lines : (Labels → NameEnds) → RowFiles → Zone → Rr → List Line
+record_lines ends row zone rr = option_map_or (λ target. target_lines row rr target (ends target)) (target_in zone rr.owner rr.rdata) []
 
 -- the lines of a row's records
-abbrev pub row_lines : (Labels → TargetEnds) → List Labels → Config → RowFiles → List ℕ
-row_lines ends served config row = flat_map (line_by ends served row) (records_of config row)
+abbrev pub row_lines : (Labels → NameEnds) → Config → RowFiles → List Line
+row_lines ends config row = option_map_or (λ zone. flat_map (record_lines ends row zone) zone.rrs) (held_zone config row.server row.origin) []
 
--- the lines of all records, in the order of rows
-abbrev pub targets_text : (Labels → TargetEnds) → Loaded → List ℕ
-targets_text ends all = flat_map (row_lines ends (origins_of all.rows) all.config) all.rows
+-- the lines of all records, in the order of rows, by how the walks of each name end
+abbrev pub targets_of : Loaded → (Labels → NameEnds) → List Line
+targets_of all ends = flat_map (row_lines ends all.config) all.rows
 
--- the status says whether there is a line
-abbrev pub targets_status : List ℕ → Status
-targets_status [] = Clean
-targets_status (octet ∷ text) = Faults
-
--- the run tells of the targets, while the servers of the set in force are followed
-pub record TellsTargets (all : Loaded) (ending : Ending) : Type 0 where
-  pub followed : List Labels
-  pub in_force : IsInForce all.config most_rewrites followed
-  pub few : NoneInRounds all.config most_rewrites most_walks_followed [] (length all.config.servers)
-  pub ends : Labels → TargetEnds
-  pub are : (name : Labels) → AreTargetEnds (following all.config most_rewrites followed) name (ends name)
-  pub as_text : ending ≡ with_output (targets_status (targets_text ends all)) (targets_text ends all)
-
--- what `targets` gives of what was read, unless a server's name has more walks than are followed
+-- what `targets` gives
 abbrev pub IsTargets : Loaded → Ending → Type 0
-IsTargets all ending =
-    ((server : Labels) × IsFirstWithTooMany all.config most_rewrites most_walks_followed [] server × (ending ≡ too_many_to_learn most_walks_followed server))
-    ⊎ TellsTargets all ending
+IsTargets all ending = ToldByEnds all.config (targets_of all) ending

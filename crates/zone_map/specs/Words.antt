@@ -3,7 +3,7 @@ use Rattle.std.specs.Prelude.{ℕ, nat_eq, Bool, ◌&&◌, not, List, [], ◌∷
 use Rattle.std.specs.List.{find, starts_with}
 use Rattle.dns_data.specs.Rdata.{octets_eq}
 use Rattle.zone_map.specs.declared.words.MapView.{MapView}
-use Rattle.zone_map.specs.declared.words.MapView.TheVariants.{Records, Reached, Targets, Delegations, Copies, Servers}
+use Rattle.zone_map.specs.declared.words.MapView.TheVariants.{Records, Reached, Targets, Delegations, Copies, Servers, Aliases, Chain}
 use Rattle.zone_map.specs.declared.words.MapJob.{MapJob}
 
 -- the word of what may be asked for
@@ -14,10 +14,12 @@ asked_word Targets = codes "targets"
 asked_word Delegations = codes "delegations"
 asked_word Copies = codes "copies"
 asked_word Servers = codes "servers"
+asked_word Aliases = codes "aliases"
+asked_word Chain = codes "chain"
 
 -- what may be asked for
 abbrev pub all_asked : List MapView
-all_asked = Records ∷ Reached ∷ Targets ∷ Delegations ∷ Copies ∷ Servers ∷ []
+all_asked = Records ∷ Reached ∷ Targets ∷ Delegations ∷ Copies ∷ Servers ∷ Aliases ∷ Chain ∷ []
 
 -- what a word asks for, which is compared as written
 abbrev pub asked_by_word : List ℕ → Option MapView
@@ -38,4 +40,4 @@ job_of words = None
 
 -- the line on err where the words are no job
 abbrev pub usage_line : List ℕ
-usage_line = codes "usage: groot-map records META | reached META | targets META | delegations META | copies META | servers META\n"
+usage_line = codes "usage: groot-map records META | reached META | targets META | delegations META | copies META | servers META | aliases META | chain META\n"

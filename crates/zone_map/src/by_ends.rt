@@ -14,6 +14,7 @@ use crate::delegations::delegations_of;
 use crate::limits::REWRITES;
 use crate::lines::{Line, with_lines};
 use crate::servers::servers_of;
+use crate::targets::targets_of;
 use config_load::{Loaded, RowFiles};
 use dns_data::{List, Name, NoMemory};
 use name_ends::Asker;
@@ -25,6 +26,7 @@ use zone_lookup::Hosts;
 /// The words that are told by how the walks of names end.
 #[derive(Clone, Copy, Debug)]
 pub(crate) enum EndsWord {
+    Targets,
     Delegations,
     Servers,
 }
@@ -52,7 +54,7 @@ fn told_at(alloc: Global, hosts: &Hosts<'_>, rows: &[RowFiles], word: EndsWord) 
 }
 
 /// What is told of the first server whose name has too many walks to learn its address.
-fn too_many_to_learn(alloc: Global, server: Name) -> Ending
+pub(crate) fn too_many_to_learn(alloc: Global, server: Name) -> Ending
     ensures { (result ≡ too_many_to_learn most_walks_followed server) ⊎ (result ≡ no_memory) }
 {
     Ending::too_many_to_learn(alloc, MOST_WALKS_FOLLOWED, &server)
@@ -85,6 +87,7 @@ fn lines_of(
     ensures { IfOk result (λ lines. lines ≡ lines_by word (record { config = asker.old.config; rows = rows.now }) (ends_in asker.old)) }
 {
     match word {
+        EndsWord::Targets => targets_of(alloc, asker, rows),
         EndsWord::Delegations => delegations_of(alloc, asker, rows),
         EndsWord::Servers => servers_of(alloc, asker, rows),
     }

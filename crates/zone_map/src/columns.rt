@@ -1,8 +1,8 @@
 //! Columns of lines.
 
-ghost use Rattle.std.specs.Prelude.{◌≡◌, ◌++◌, codes, decimal, OnOk};
+ghost use Rattle.std.specs.Prelude.{◌≡◌, ◌++◌, true, codes, decimal, OnOk};
 ghost use Rattle.dns_data.specs.Spelling.{name_text};
-ghost use Rattle.zone_map.specs.Columns.{file_octet_text, file_text, tab, as_written, written_octet};
+ghost use Rattle.zone_map.specs.Columns.{as_written, file_octet_text, file_text, is_held, is_plain, next_written, tab, written_octet};
 
 use config_load::{put_decimal_escape, put_shown_octet};
 use dns_data::{Name, NoMemory, Octets};
@@ -56,17 +56,60 @@ fn put_file_octet(alloc: Global, text: &mut Octets, octet: u8) -> Result<(), NoM
 pub(crate) fn put_written(alloc: Global, text: &mut Octets, token: &[u8]) -> Result<(), NoMemory>
     ensures { OnOk result (text.new ≡ text.old ++ as_written token.now) }
 {
+    let mut escaped = false;
     for octet in token {
-        put_written_octet(alloc, text, *octet)?;
+        put_next(alloc, text, escaped, *octet)?;
+        escaped = is_held(escaped, *octet);
+    }
+    if escaped {
+        return text.push(alloc, b'\\');
     }
     Ok(())
+}
+
+/// Whether the octet is a backslash that is written with the next octet.
+fn is_held(escaped: bool, octet: u8) -> bool
+    ensures { result ≡ is_held escaped octet }
+{
+    !escaped && octet == b'\\'
+}
+
+/// Puts what is written at an octet at the end, behind a backslash that isn't written yet or without one.
+fn put_next(alloc: Global, text: &mut Octets, escaped: bool, octet: u8) -> Result<(), NoMemory>
+    ensures { OnOk result (text.new ≡ text.old ++ next_written escaped octet) }
+{
+    if escaped {
+        put_escaped(alloc, text, octet)
+    } else if octet == b'\\' {
+        Ok(())
+    } else {
+        put_written_octet(alloc, text, octet)
+    }
+}
+
+/// Puts an octet at the end with the backslash before it, or its digits.
+fn put_escaped(alloc: Global, text: &mut Octets, octet: u8) -> Result<(), NoMemory>
+    ensures { OnOk result (text.new ≡ text.old ++ next_written true octet) }
+{
+    if !is_plain(octet) {
+        return put_decimal_escape(alloc, text, octet);
+    }
+    text.push(alloc, b'\\')?;
+    text.push(alloc, octet)
+}
+
+/// Whether the octet is printable and no space.
+fn is_plain(octet: u8) -> bool
+    ensures { result ≡ is_plain octet }
+{
+    (33..=126).contains(&octet)
 }
 
 /// Puts an octet of a token at the end.
 fn put_written_octet(alloc: Global, text: &mut Octets, octet: u8) -> Result<(), NoMemory>
     ensures { OnOk result (text.new ≡ text.old ++ written_octet octet) }
 {
-    if (33..=126).contains(&octet) {
+    if is_plain(octet) {
         return text.push(alloc, octet);
     }
     put_decimal_escape(alloc, text, octet)

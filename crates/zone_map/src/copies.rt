@@ -48,8 +48,8 @@ fn copies_among(alloc: Global, config: &Config, rows: &[RowFiles]) -> Result<Lis
     Ok(lines)
 }
 
-/// Puts what is told of a row, which has this number, at the end, or keeps what is compared of it where it is the first with
-/// its origin.
+/// Puts what is told of a row, which has this number, at the end, or keeps what is compared of it where it is the first
+/// with its origin.
 fn put_copy(
     alloc: Global,
     lines: &mut List<Line>,

@@ -6,7 +6,7 @@ ghost use Rattle.std.specs.Option.{option_map};
 ghost use Rattle.dns_data.specs.DataText.{separated};
 ghost use Rattle.dns_data.specs.Spelling.{name_text};
 ghost use Rattle.run_endings.specs.Endings.{no_memory};
-ghost use Rattle.zone_map.specs.Columns.{columns_line, file_text, tab};
+ghost use Rattle.zone_map.specs.Columns.{columns_line, file_text};
 ghost use Rattle.zone_map.specs.Lines.{line_of, lines_status, lines_text, place_columns, with_lines};
 
 use crate::columns::{put_file, put_name, put_number};
@@ -77,40 +77,50 @@ fn columns_line(alloc: Global, columns: &[Octets]) -> Result<Octets, NoMemory>
     ensures { IfOk result (λ text. text ≡ columns_line columns.now) }
 {
     let mut text = Octets::new();
-    put_columns(alloc, &mut text, columns)?;
+    put_columns_between(alloc, &mut text, b"\t", columns)?;
     text.push(alloc, b'\n')?;
     Ok(text)
 }
 
-/// Puts columns at the end, with tabs between them.
-fn put_columns(alloc: Global, text: &mut Octets, columns: &[Octets]) -> Result<(), NoMemory>
-    ensures { OnOk result (text.new ≡ text.old ++ separated tab columns.now) }
+/// Puts columns at the end, with these octets between them.
+pub(crate) fn put_columns_between(
+    alloc: Global,
+    text: &mut Octets,
+    between: &[u8],
+    columns: &[Octets],
+) -> Result<(), NoMemory>
+    ensures { OnOk result (text.new ≡ text.old ++ separated between.now columns.now) }
 {
     match columns {
         [first, rest @ ..] => {
             text.extend_from_slice(alloc, first.items())?;
-            put_rest(alloc, text, rest)
+            put_rest(alloc, text, between, rest)
         }
         [] => Ok(()),
     }
 }
 
-/// Puts columns at the end, each behind a tab.
-fn put_rest(alloc: Global, text: &mut Octets, columns: &[Octets]) -> Result<(), NoMemory>
-    ensures { OnOk result (text.new ≡ text.old ++ flat_map (λ next. tab ++ next) columns.now) }
+/// Puts columns at the end, each behind these octets.
+fn put_rest(
+    alloc: Global,
+    text: &mut Octets,
+    between: &[u8],
+    columns: &[Octets],
+) -> Result<(), NoMemory>
+    ensures { OnOk result (text.new ≡ text.old ++ flat_map (λ next. between.now ++ next) columns.now) }
 {
     for column in columns {
-        put_behind_tab(alloc, text, column.items())?;
+        put_both(alloc, text, between, column.items())?;
     }
     Ok(())
 }
 
-/// Puts a column at the end, behind a tab.
-fn put_behind_tab(alloc: Global, text: &mut Octets, column: &[u8]) -> Result<(), NoMemory>
-    ensures { OnOk result (text.new ≡ text.old ++ (tab ++ column.now)) }
+/// Puts octets and others behind them at the end.
+fn put_both(alloc: Global, text: &mut Octets, first: &[u8], second: &[u8]) -> Result<(), NoMemory>
+    ensures { OnOk result (text.new ≡ text.old ++ (first.now ++ second.now)) }
 {
-    text.push(alloc, b'\t')?;
-    text.extend_from_slice(alloc, column)
+    text.extend_from_slice(alloc, first)?;
+    text.extend_from_slice(alloc, second)
 }
 
 /// Puts a column at the end that has these octets.
@@ -122,6 +132,20 @@ pub(crate) fn put_octets(
     ensures { OnOk result (columns.new ≡ columns.old ++ octets.now ∷ []) }
 {
     columns.push(Octets::from_octets(alloc, octets)?)
+}
+
+/// Puts columns at the end.
+pub(crate) fn put_all(
+    alloc: Global,
+    columns: &mut List<Octets>,
+    more: &[Octets],
+) -> Result<(), NoMemory>
+    ensures { OnOk result (columns.new ≡ columns.old ++ more.now) }
+{
+    for column in more {
+        put_octets(alloc, columns, column.items())?;
+    }
+    Ok(())
 }
 
 /// Puts a column at the end that has a name.

@@ -1,17 +1,17 @@
 //! The name servers that records name at origins and at zone cuts.
 
-ghost use Rattle.std.specs.Prelude.{◌≡◌, ◌++◌, ◌∷◌, [], List as Items, false, if◌then◌else◌, IfOk, OnOk};
+ghost use Rattle.std.specs.Prelude.{◌≡◌, ◌++◌, ◌∷◌, [], List as Items, IfOk, OnOk};
 ghost use Rattle.std.specs.List.{flat_map};
 ghost use Rattle.std.specs.Option.{option_map};
-ghost use Rattle.dns_data.specs.Name.{Labels, name_eq};
 ghost use Rattle.net_model.specs.Order.{in_order};
 ghost use Rattle.zone_cuts.specs.Cuts.{ns_target, server_named_by};
 ghost use Rattle.zone_map.specs.Lines.{place_columns};
-ghost use Rattle.zone_map.specs.Namings.{KnowsNamings, named_in};
+ghost use Rattle.zone_map.specs.Namings.{KnowsNamings};
 ghost use Rattle.zone_map.specs.Servers.{naming_of, namings_at, row_namings};
 ghost use Rattle.zone_map.specs.declared.namings.Naming.{Naming as NamingValue};
 
 use crate::lines::put_place;
+use crate::name_lists::list_at;
 use config_load::RowFiles;
 use dns_data::{List, Name, NoMemory, Octets, Rdata, Rr};
 use std::alloc::Global;
@@ -20,8 +20,8 @@ use zone_cuts::has_servers;
 use zone_lookup::Hosts;
 use zone_tree::Tree;
 
-/// An NS record at an origin or at a zone cut: the name server that it names, its owner, whether that is the origin, and the
-/// columns of its place.
+/// An NS record at an origin or at a zone cut: the name server that it names, its owner, whether that is the origin, and
+/// the columns of its place.
 #[derive(Debug, Drop)]
 pub(crate) struct Naming {
     pub server: Name,
@@ -149,36 +149,7 @@ fn naming_of(
 fn put_naming(alloc: Global, told: &mut Namings, naming: Naming) -> Result<(), NoMemory>
     ensures { (before : Items NamingValue) → KnowsNamings before told.old → OnOk result (KnowsNamings (before ++ naming ∷ []) told.new) }
 {
-    told.names.push(naming.server.copy(alloc)?)?;
-    list_naming(alloc, &mut told.named, naming)
-}
-
-/// Lists what a record names behind what others name of its name server.
-fn list_naming(
-    alloc: Global,
-    named: &mut BTreeMap<Name, List<Naming>>,
-    naming: Naming,
-) -> Result<(), NoMemory>
-    ensures { OnOk result ((name : Labels) → named_in named.new name ≡ named_in named.old name ++ (if name_eq naming.server name then naming ∷ [] else [])) }
-{
     let server = naming.server.copy(alloc)?;
-    let mut listed = take_listed(alloc, named, &server);
-    listed.push(naming)?;
-    named.insert(server, listed)?;
-    Ok(())
-}
-
-/// Takes out what names the name server.
-fn take_listed(
-    alloc: Global,
-    named: &mut BTreeMap<Name, List<Naming>>,
-    server: &Name,
-) -> List<Naming>
-    ensures taken { result ≡ named_in named.old server.now }
-    ensures others { (name : Labels) → name_eq server.now name ≡ false → named_in named.new name ≡ named_in named.old name }
-{
-    match named.remove(server) {
-        Some(listed) => listed,
-        None => List::new(alloc),
-    }
+    list_at(alloc, &mut told.named, &server, naming)?;
+    told.names.push(server)
 }

@@ -14,7 +14,7 @@ ghost use Rattle.zone_map.specs.SideFaults.{fault_line, no_deps};
 ghost use Rattle.zone_lookup.specs.ReferralFaults.{cut_faults};
 
 use crate::lines::{Line, put_line, put_name_column, put_place, row_columns};
-use crate::row_zone::RowZone;
+use crate::row_zone::{RowZone, is_named};
 use dns_data::{List, Name, NoMemory, Octets};
 use name_ends::Asker;
 use net_model::{Cut, Deps, Fault, is_among};
@@ -298,20 +298,6 @@ fn is_leftover(hosts: &Hosts<'_>, at: &RowZone<'_, '_>, cut: &Name, names: &[&Na
 {
     let server = &at.row().server;
     hosts.held_zone(server, cut).is_some() && !is_named(names, server) && is_asked(hosts, at)
-}
-
-/// Whether the name is among these.
-fn is_named(names: &[&Name], name: &Name) -> bool
-    ensures { result ≡ is_among (map (λ name. name.now) names.now) name.now }
-{
-    some_is(names, name)
-}
-
-/// Whether one of these is the name.
-fn some_is(names: &[&Name], name: &Name) -> bool
-    ensures { result ≡ list_any (λ other. name_eq name.now other.now) names.now }
-{
-    names.iter().any(|other| *name == **other)
 }
 
 /// Whether the row's server is asked for names of its zone: it is a top server, or one of the zone's name servers.

@@ -1,6 +1,6 @@
 //! The lines of records.
 
-ghost use Rattle.std.specs.Prelude.{◌≡◌, ◌++◌, [], decimal, codes, map, IfOk, OnOk};
+ghost use Rattle.std.specs.Prelude.{◌≡◌, ◌++◌, ◌∷◌, [], decimal, codes, map, IfOk, OnOk};
 ghost use Rattle.std.specs.List.{flat_map};
 ghost use Rattle.dns_data.specs.DataText.{separated};
 ghost use Rattle.config_load.specs.Faults.{name_numbered};
@@ -8,8 +8,9 @@ ghost use Rattle.zone_map.specs.Columns.{file_text, columns_line, tab, as_writte
 ghost use Rattle.zone_map.specs.Records.{other_tokens, other_word, record_columns, records_text, row_text, told_data, type_text};
 
 use crate::columns::{put_file, put_name, put_number, put_tab, put_written};
+use crate::lines::{self, put_name_column};
 use config_load::{Loaded, RowFiles};
-use dns_data::{NoMemory, Octets, Rdata, Rr, Text, rdata_text};
+use dns_data::{List, NoMemory, Octets, Rdata, Rr, Text, rdata_text};
 use net_model::{Config, held_zone};
 use std::alloc::Global;
 
@@ -64,13 +65,54 @@ fn put_record(alloc: Global, text: &mut Octets, row: &RowFiles, rr: &Rr) -> Resu
     text.push(alloc, b'\n')
 }
 
-/// Puts the columns of a record at the end.
-pub(crate) fn put_columns(
+/// The columns of a record.
+pub(crate) fn record_columns(
     alloc: Global,
-    text: &mut Octets,
+    row: &RowFiles,
+    rr: &Rr,
+) -> Result<List<Octets>, NoMemory>
+    ensures { IfOk result (λ columns. columns ≡ record_columns row.now rr.now) }
+{
+    let mut columns = List::new(alloc);
+    put_record_columns(alloc, &mut columns, row, rr)?;
+    Ok(columns)
+}
+
+/// Puts the columns of a record at the end.
+pub(crate) fn put_record_columns(
+    alloc: Global,
+    columns: &mut List<Octets>,
     row: &RowFiles,
     rr: &Rr,
 ) -> Result<(), NoMemory>
+    ensures { OnOk result (columns.new ≡ columns.old ++ record_columns row.now rr.now) }
+{
+    put_name_column(alloc, columns, &row.server)?;
+    put_name_column(alloc, columns, &row.origin)?;
+    put_name_column(alloc, columns, &rr.owner)?;
+    put_data_columns(alloc, columns, row, rr)
+}
+
+/// Puts the columns of a record behind its owner at the end: its type, its place and its data.
+fn put_data_columns(
+    alloc: Global,
+    columns: &mut List<Octets>,
+    row: &RowFiles,
+    rr: &Rr,
+) -> Result<(), NoMemory>
+    ensures { OnOk result (columns.new ≡ columns.old ++ type_text rr.now.rdata ∷ file_text (name_numbered row.now.files rr.now.file) ∷ decimal rr.now.line ∷ told_data rr.now.rdata ∷ []) }
+{
+    let mut word = Octets::new();
+    put_type(alloc, &mut word, &rr.rdata)?;
+    columns.push(word)?;
+    lines::put_place(alloc, columns, row, Some(rr))?;
+    let mut told = Octets::new();
+    put_data(alloc, &mut told, &rr.rdata)?;
+    columns.push(told)
+}
+
+/// Puts the columns of a record at the end.
+fn put_columns(alloc: Global, text: &mut Octets, row: &RowFiles, rr: &Rr) -> Result<(), NoMemory>
     ensures { OnOk result (text.new ≡ text.old ++ separated tab (record_columns row.now rr.now)) }
 {
     put_name(alloc, text, &row.server)?;

@@ -1,8 +1,9 @@
 //! The zone of a row, with the NS records by their owners and name servers.
 
 ghost use Rattle.std.specs.Prelude.{◌≡◌, map, true, IfOk};
+ghost use Rattle.std.specs.List.{list_any};
 ghost use Rattle.std.specs.Option.{option_map};
-ghost use Rattle.dns_data.specs.Name.{is_prefix};
+ghost use Rattle.dns_data.specs.Name.{is_among, is_prefix, name_eq};
 ghost use Rattle.net_model.specs.Zone.{ns_names};
 ghost use Rattle.zone_cuts.specs.Cuts.{ns_record};
 
@@ -88,7 +89,7 @@ impl<'z, 'a> RowZone<'z, 'a> {
 }
 
 /// The names of the name servers of a name at or below the origin of the tree's zone, in the order of names.
-fn ns_names<'t, 'a>(tree: &'t Tree<'a>, name: &Name) -> &'t [&'a Name]
+pub(crate) fn ns_names<'t, 'a>(tree: &'t Tree<'a>, name: &Name) -> &'t [&'a Name]
     requires { is_prefix tree.now.zone.origin name.now ≡ true }
     ensures { map (λ ns. ns.now) result.now ≡ ns_names tree.now.zone name.now }
 {
@@ -96,4 +97,18 @@ fn ns_names<'t, 'a>(tree: &'t Tree<'a>, name: &Name) -> &'t [&'a Name]
         Some(node) => tree.name_servers(node),
         None => &[],
     }
+}
+
+/// Whether the name is among these.
+pub(crate) fn is_named(names: &[&Name], name: &Name) -> bool
+    ensures { result ≡ is_among (map (λ name. name.now) names.now) name.now }
+{
+    some_is(names, name)
+}
+
+/// Whether one of these is the name.
+fn some_is(names: &[&Name], name: &Name) -> bool
+    ensures { result ≡ list_any (λ other. name_eq name.now other.now) names.now }
+{
+    names.iter().any(|other| *name == **other)
 }

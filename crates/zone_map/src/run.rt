@@ -1,37 +1,34 @@
 //! The top call.
 
-ghost use Rattle.std.specs.Prelude.{◌≡◌, ◌≢◌, ◌⊎◌, ℕ, List, [], map, Some, IsTrue};
-ghost use Rattle.std.specs.Io.KnownBytes.{Appends, Keeps};
-ghost use Rattle.io_edges.specs.Counts.{Rose};
+ghost use Rattle.std.specs.Prelude.{◌≡◌, ◌⊎◌, map, Some};
 ghost use Rattle.io_edges.specs.Files.{TellsAll};
-ghost use Rattle.zone_map.specs.Loaded.{loaded};
-ghost use Rattle.config_load.specs.Reading.{Reads};
-ghost use Rattle.config_load.specs.declared.loaded.Loaded.{Loaded as Read};
-ghost use Rattle.run_endings.specs.Endings.{no_memory, writes_nothing};
-ghost use Rattle.run_endings.specs.Writing.{IsLeft, TookLine};
-ghost use Rattle.run_endings.specs.declared.ending.Ending.{Ending as Ended};
+ghost use Rattle.run_endings.specs.Endings.{no_memory, with_output};
+ghost use Rattle.run_endings.specs.declared.status.Status.TheVariants.{Clean};
 ghost use Rattle.zone_map.specs.JobEnds.{JobEnds};
+ghost use Rattle.zone_map.specs.Aliases.{IsAliases};
+ghost use Rattle.zone_map.specs.Chain.{chain_of};
 ghost use Rattle.zone_map.specs.Copies.{copies_of};
 ghost use Rattle.zone_map.specs.Delegations.{IsDelegations};
 ghost use Rattle.zone_map.specs.Limits.{WithinLimits};
-ghost use Rattle.zone_map.specs.Lines.{lines_status, lines_text};
-ghost use Rattle.zone_map.specs.Outcome.{IsEnding, JobComesTo, JobOpensNoOther, NoJobReadFailed, Outcome, TellsAsked};
+ghost use Rattle.zone_map.specs.Lines.{with_lines};
+ghost use Rattle.zone_map.specs.Outcome.{JobOpensNoOther, TellsAsked};
+ghost use Rattle.zone_map.specs.Runs.{WritesView, RunsAsAsked, EndsAsAsked};
 ghost use Rattle.zone_map.specs.Reached.{TellsRows};
 ghost use Rattle.zone_map.specs.Records.{records_text};
 ghost use Rattle.zone_map.specs.Servers.{IsServers};
 ghost use Rattle.zone_map.specs.Targets.{IsTargets};
-ghost use Rattle.zone_map.specs.Words.{job_of};
 
+use crate::aliases::aliases_ending;
 use crate::by_ends::{EndsWord, told_by_ends};
+use crate::chain::chain_ending;
 use crate::copies::copies_ending;
 use crate::reached_rows::reached_rows;
 use crate::records::records_text;
-use crate::targets::targets_ending;
 use crate::words::{MapJob, MapView, read_words, usage_line};
 use config_load::{Limits, Loaded, load_with_files};
 use dns_data::NoMemory;
 use io_edges::{Failed, Files, Sink};
-use run_endings::{Ending, Status, tell, write_all};
+use run_endings::{Ending, Status, tell, write_text};
 use std::alloc::Global;
 
 /// Does what the words after the program's name ask for, writes its text on out, and tells on err how it ended.
@@ -44,88 +41,69 @@ pub fn groot_map<F: Files, O: Sink, E: Sink>(
 ) -> Status
     // For files that read, by the octets that were read of them, `records` writes exactly the records of their
     // configuration, in the order of rows, each with the file and the line from which it was read.
-    ensures records { (meta : List ℕ) (all : Read) →
-        job_of (map (λ word. word.now) words.now) ≡ Some (record { asked = MapView.Records; meta = meta }) →
-        loaded meta (F.told files.new) ≡ Reads all →
-        NoJobReadFailed (F.told files.new) (job_of (map (λ word. word.now) words.now)) (F.faults files.old) (F.faults files.new) →
-        (Rose (O.faults out.old) (O.faults out.new) → ⊥) →
-        ((result ≡ Status.Clean) × Appends (O.taken out.old) (O.taken out.new) (records_text all)) ⊎ (result ≡ Status.NoMemory) }
+    ensures records { WritesView MapView.Records (λ all ending. ending ≡ with_output Clean (records_text all)) (map (λ word. word.now) words.now)
+        (record { told_before = F.told files.old; told_after = F.told files.new; failed_before = F.faults files.old; failed_after = F.faults files.new })
+        (record { taken_before = O.taken out.old; taken_after = O.taken out.new; passed_before = O.passed out.old; passed_after = O.passed out.new; failed_before = O.faults out.old; failed_after = O.faults out.new })
+        result }
 
     // `reached` writes the line of each row, which says whether a walk of the SOA query at the origin of its zone ends in
     // an answer at its server, and ends with 0 exactly if one does for each row; unless a query passes the limit of states.
-    ensures reached { (meta : List ℕ) (all : Read) →
-        job_of (map (λ word. word.now) words.now) ≡ Some (record { asked = MapView.Reached; meta = meta }) →
-        loaded meta (F.told files.new) ≡ Reads all →
-        NoJobReadFailed (F.told files.new) (job_of (map (λ word. word.now) words.now)) (F.faults files.old) (F.faults files.new) →
-        (Rose (O.faults out.old) (O.faults out.new) → ⊥) →
-        ((ending : Ended) × WithinLimits all.config all.rows (TellsRows all.config all.rows ending) ending
-        × (result ≡ ending.status) × Appends (O.taken out.old) (O.taken out.new) ending.out) ⊎ (result ≡ Status.NoMemory) }
+    ensures reached { WritesView MapView.Reached (λ all ending. WithinLimits all.config all.rows (TellsRows all.config all.rows ending) ending) (map (λ word. word.now) words.now)
+        (record { told_before = F.told files.old; told_after = F.told files.new; failed_before = F.faults files.old; failed_after = F.faults files.new })
+        (record { taken_before = O.taken out.old; taken_after = O.taken out.new; passed_before = O.passed out.old; passed_after = O.passed out.new; failed_before = O.faults out.old; failed_after = O.faults out.new })
+        result }
 
-    // `targets` writes exactly the records whose target leads nowhere, with the ends of its walks of type A and of type
-    // AAAA, or has too many walks to be looked at.
-    ensures targets { (meta : List ℕ) (all : Read) →
-        job_of (map (λ word. word.now) words.now) ≡ Some (record { asked = MapView.Targets; meta = meta }) →
-        loaded meta (F.told files.new) ≡ Reads all →
-        NoJobReadFailed (F.told files.new) (job_of (map (λ word. word.now) words.now)) (F.faults files.old) (F.faults files.new) →
-        (Rose (O.faults out.old) (O.faults out.new) → ⊥) →
-        ((ending : Ended) × IsTargets all ending × (result ≡ ending.status) × Appends (O.taken out.old) (O.taken out.new) ending.out)
-        ⊎ (result ≡ Status.NoMemory) }
+    // `targets` writes exactly the lines of the records whose target leads nowhere, or only partly anywhere, or is an
+    // alias, with the ends of its walks of type A and of type AAAA.
+    ensures targets { WritesView MapView.Targets IsTargets (map (λ word. word.now) words.now)
+        (record { told_before = F.told files.old; told_after = F.told files.new; failed_before = F.faults files.old; failed_after = F.faults files.new })
+        (record { taken_before = O.taken out.old; taken_after = O.taken out.new; passed_before = O.passed out.old; passed_after = O.passed out.new; failed_before = O.faults out.old; failed_after = O.faults out.new })
+        result }
 
     // `delegations` writes exactly the lines of the name servers of each zone's cuts and origin: the faults of delegations
     // that need no walk, and the name servers of which no query finds an address.
-    ensures delegations { (meta : List ℕ) (all : Read) →
-        job_of (map (λ word. word.now) words.now) ≡ Some (record { asked = MapView.Delegations; meta = meta }) →
-        loaded meta (F.told files.new) ≡ Reads all →
-        NoJobReadFailed (F.told files.new) (job_of (map (λ word. word.now) words.now)) (F.faults files.old) (F.faults files.new) →
-        (Rose (O.faults out.old) (O.faults out.new) → ⊥) →
-        ((ending : Ended) × IsDelegations all ending × (result ≡ ending.status) × Appends (O.taken out.old) (O.taken out.new) ending.out)
-        ⊎ (result ≡ Status.NoMemory) }
+    ensures delegations { WritesView MapView.Delegations IsDelegations (map (λ word. word.now) words.now)
+        (record { told_before = F.told files.old; told_after = F.told files.new; failed_before = F.faults files.old; failed_after = F.faults files.new })
+        (record { taken_before = O.taken out.old; taken_after = O.taken out.new; passed_before = O.passed out.old; passed_after = O.passed out.new; failed_before = O.faults out.old; failed_after = O.faults out.new })
+        result }
 
     // `copies` writes exactly how each copy of a zone stands to the first with its origin, in the order of rows.
-    ensures copies { (meta : List ℕ) (all : Read) →
-        job_of (map (λ word. word.now) words.now) ≡ Some (record { asked = MapView.Copies; meta = meta }) →
-        loaded meta (F.told files.new) ≡ Reads all →
-        NoJobReadFailed (F.told files.new) (job_of (map (λ word. word.now) words.now)) (F.faults files.old) (F.faults files.new) →
-        (Rose (O.faults out.old) (O.faults out.new) → ⊥) →
-        ((result ≡ lines_status (copies_of all)) × Appends (O.taken out.old) (O.taken out.new) (lines_text (copies_of all)))
-        ⊎ (result ≡ Status.NoMemory) }
+    ensures copies { WritesView MapView.Copies (λ all ending. ending ≡ with_lines (copies_of all)) (map (λ word. word.now) words.now)
+        (record { told_before = F.told files.old; told_after = F.told files.new; failed_before = F.faults files.old; failed_after = F.faults files.new })
+        (record { taken_before = O.taken out.old; taken_after = O.taken out.new; passed_before = O.passed out.old; passed_after = O.passed out.new; failed_before = O.faults out.old; failed_after = O.faults out.new })
+        result }
 
     // `servers` writes exactly the line of each name that an NS record of an origin or of a zone cut has, and of each
     // configured server, in the order of names.
-    ensures servers { (meta : List ℕ) (all : Read) →
-        job_of (map (λ word. word.now) words.now) ≡ Some (record { asked = MapView.Servers; meta = meta }) →
-        loaded meta (F.told files.new) ≡ Reads all →
-        NoJobReadFailed (F.told files.new) (job_of (map (λ word. word.now) words.now)) (F.faults files.old) (F.faults files.new) →
-        (Rose (O.faults out.old) (O.faults out.new) → ⊥) →
-        ((ending : Ended) × IsServers all ending × (result ≡ ending.status) × Appends (O.taken out.old) (O.taken out.new) ending.out)
-        ⊎ (result ≡ Status.NoMemory) }
+    ensures servers { WritesView MapView.Servers IsServers (map (λ word. word.now) words.now)
+        (record { told_before = F.told files.old; told_after = F.told files.new; failed_before = F.faults files.old; failed_after = F.faults files.new })
+        (record { taken_before = O.taken out.old; taken_after = O.taken out.new; passed_before = O.passed out.old; passed_after = O.passed out.new; failed_before = O.faults out.old; failed_after = O.faults out.new })
+        result }
 
-    // Where nothing failed, the run is the outcome of the words' job.
-    ensures complete { NoJobReadFailed (F.told files.new) (job_of (map (λ word. word.now) words.now)) (F.faults files.old) (F.faults files.new) →
-        (Rose (O.faults out.old) (O.faults out.new) → ⊥) →
-        ((ending : Ended) × Outcome (F.told files.new) (job_of (map (λ word. word.now) words.now)) ending
-        × (result ≡ ending.status) × Appends (O.taken out.old) (O.taken out.new) ending.out)
-        ⊎ (result ≡ Status.NoMemory) }
+    // `aliases` writes exactly the lines of the aliases for whose target their server answers otherwise than is found from the
+    // top servers, in the order of rows.
+    ensures aliases { WritesView MapView.Aliases IsAliases (map (λ word. word.now) words.now)
+        (record { told_before = F.told files.old; told_after = F.told files.new; failed_before = F.faults files.old; failed_after = F.faults files.new })
+        (record { taken_before = O.taken out.old; taken_after = O.taken out.new; passed_before = O.passed out.old; passed_after = O.passed out.new; failed_before = O.faults out.old; failed_after = O.faults out.new })
+        result }
 
-    // However it ends: as its job does, in a failed read or because memory ran out, unless out fails; and err took its
-    // line.
-    ensures cause { (ending left : Ended)
-        × IsEnding (F.told files.new) (job_of (map (λ word. word.now) words.now)) ending
-        × IsLeft ending (O.taken out.old) (O.taken out.new) (O.faults out.old) (O.faults out.new) left
-        × (result ≡ left.status) × TookLine (E.taken err.old) (E.taken err.new) (E.faults err.old) (E.faults err.new) left.err }
-    ensures read_fault { (file : List ℕ) → result ≡ Status.ReadFault file →
-        JobComesTo (F.told files.new) (job_of (map (λ word. word.now) words.now)) file
-        × Rose (F.faults files.old file) (F.faults files.new file) }
-    ensures write_fault { result ≡ Status.WriteFault → Rose (O.faults out.old) (O.faults out.new) }
-    ensures silent { IsTrue (writes_nothing result) → Keeps (O.taken out.old) (O.taken out.new) }
+    // `chain` writes exactly the lines of DS and DNSKEY records that don't have their form or stand at the wrong place, and of
+    // the zone cuts whose DS records don't match the keys of the delegated zones.
+    ensures chain { WritesView MapView.Chain (λ all ending. ending ≡ with_lines (chain_of all)) (map (λ word. word.now) words.now)
+        (record { told_before = F.told files.old; told_after = F.told files.new; failed_before = F.faults files.old; failed_after = F.faults files.new })
+        (record { taken_before = O.taken out.old; taken_after = O.taken out.new; passed_before = O.passed out.old; passed_after = O.passed out.new; failed_before = O.faults out.old; failed_after = O.faults out.new })
+        result }
 
-    // Files that told all from the start tell the same after the run. No other file is opened than those to which the job
-    // comes: so no zone file of metadata that are refused.
-    ensures from_the_start { TellsAll (F.told files.old) → F.told files.new ≡ F.told files.old }
-    ensures opens { JobOpensNoOther (F.told files.old) (F.told files.new) (job_of (map (λ word. word.now) words.now)) }
+    // Where nothing failed, the run is the outcome of the words' job, and out passed on exactly its text; else the run says
+    // why.
+    ensures run { RunsAsAsked (map (λ word. word.now) words.now)
+        (record { told_before = F.told files.old; told_after = F.told files.new; failed_before = F.faults files.old; failed_after = F.faults files.new })
+        (record { taken_before = O.taken out.old; taken_after = O.taken out.new; passed_before = O.passed out.old; passed_after = O.passed out.new; failed_before = O.faults out.old; failed_after = O.faults out.new })
+        (record { taken_before = E.taken err.old; taken_after = E.taken err.new; passed_before = E.passed err.old; passed_after = E.passed err.new; failed_before = E.faults err.old; failed_after = E.faults err.new })
+        result }
 {
     let ending = run_words(alloc, words, files);
-    match write_all(out, ending.out.items()) {
+    match write_text(out, &ending.out) {
         Ok(()) => {
             tell(err, ending.err.octets());
             ending.status
@@ -139,23 +117,11 @@ pub fn groot_map<F: Files, O: Sink, E: Sink>(
 
 /// Does what the words after the program's name ask for, up to the writing: the status with which the run ends, the
 /// text for out and the line for err.
-pub fn run_words<F: Files>(alloc: Global, words: &[&str], files: &mut F) -> Ending
-    // Where no read failed, it is the outcome of the words' job.
-    ensures complete { NoJobReadFailed (F.told files.new) (job_of (map (λ word. word.now) words.now)) (F.faults files.old) (F.faults files.new) →
-        Outcome (F.told files.new) (job_of (map (λ word. word.now) words.now)) result ⊎ (result ≡ no_memory) }
-
-    // However it ends: as its job does, in a failed read or because memory ran out. A failed read comes before no refusal.
-    ensures cause { IsEnding (F.told files.new) (job_of (map (λ word. word.now) words.now)) result }
-    ensures read_fault { (file : List ℕ) → result.status ≡ Status.ReadFault file →
-        JobComesTo (F.told files.new) (job_of (map (λ word. word.now) words.now)) file
-        × Rose (F.faults files.old file) (F.faults files.new file) }
-    ensures no_write_fault { result.status ≢ Status.WriteFault }
-    ensures silent { IsTrue (writes_nothing result.status) → result.out ≡ [] }
-
-    // Files that told all from the start tell the same after the run. No other file is opened than those to which the job
-    // comes: so no zone file of metadata that are refused.
-    ensures from_the_start { TellsAll (F.told files.old) → F.told files.new ≡ F.told files.old }
-    ensures opens { JobOpensNoOther (F.told files.old) (F.told files.new) (job_of (map (λ word. word.now) words.now)) }
+fn run_words<F: Files>(alloc: Global, words: &[&str], files: &mut F) -> Ending
+    // Where no read failed, it is the outcome of the words' job; else the ending says why.
+    ensures run { EndsAsAsked (map (λ word. word.now) words.now)
+        (record { told_before = F.told files.old; told_after = F.told files.new; failed_before = F.faults files.old; failed_after = F.faults files.new })
+        result }
 {
     match read_words(alloc, words) {
         Ok(Some(job)) => of_job(alloc, files, &job),
@@ -184,9 +150,11 @@ fn told(alloc: Global, asked: MapView, all: &Loaded) -> Ending
     match asked {
         MapView::Records => Ending::written(Status::Clean, records_text(alloc, all)),
         MapView::Reached => reached_rows(alloc, &all.config, all.rows.items()),
-        MapView::Targets => targets_ending(alloc, all),
+        MapView::Targets => told_by_ends(alloc, all, EndsWord::Targets),
         MapView::Delegations => told_by_ends(alloc, all, EndsWord::Delegations),
         MapView::Copies => copies_ending(alloc, all),
         MapView::Servers => told_by_ends(alloc, all, EndsWord::Servers),
+        MapView::Aliases => aliases_ending(alloc, all),
+        MapView::Chain => chain_ending(alloc, all),
     }
 }

@@ -6,11 +6,13 @@ ghost use Rattle.dns_data.specs.Spelling.{name_text};
 ghost use Rattle.net_model.specs.Nearest.{is_configured, server_names};
 ghost use Rattle.net_model.specs.Order.{in_order};
 ghost use Rattle.name_ends.specs.Asked.{ends_in};
-ghost use Rattle.zone_map.specs.Namings.{KnowsNamings, named_in};
+ghost use Rattle.zone_map.specs.NameLists.{listed_at};
+ghost use Rattle.zone_map.specs.Namings.{KnowsNamings};
 ghost use Rattle.zone_map.specs.Servers.{first_place, is_at, namings_for, namings_of, owner_count, owner_if, owners_of, server_counts, server_line, server_text, server_word, servers_of};
 ghost use Rattle.zone_map.specs.declared.namings.Naming.{Naming as NamingValue};
 
-use crate::lines::{Line, put_line, put_name_column, put_number_column, put_octets};
+use crate::lines::{Line, put_all, put_line, put_name_column, put_number_column, put_octets};
+use crate::name_lists::listed_at;
 use crate::namings::{Naming, namings_of};
 use config_load::RowFiles;
 use dns_data::{List, Name, NoMemory, Octets};
@@ -92,7 +94,7 @@ fn lines_of(
     named: &BTreeMap<Name, List<Naming>>,
     names: &[Name],
 ) -> Result<List<Line>, NoMemory>
-    ensures { IfOk result (λ lines. lines ≡ map (λ name. server_line (ends_in asker.old name) (is_configured asker.old.config name) name (named_in named.now name)) names.now) }
+    ensures { IfOk result (λ lines. lines ≡ map (λ name. server_line (ends_in asker.old name) (is_configured asker.old.config name) name (listed_at named.now name)) names.now) }
 {
     let mut lines = List::new(alloc);
     for name in names {
@@ -109,15 +111,13 @@ fn put_server(
     named: &BTreeMap<Name, List<Naming>>,
     name: &Name,
 ) -> Result<(), NoMemory>
-    ensures lines { OnOk result (lines.new ≡ lines.old ++ server_line (ends_in asker.old name.now) (is_configured asker.old.config name.now) name.now (named_in named.now name.now) ∷ []) }
+    ensures lines { OnOk result (lines.new ≡ lines.old ++ server_line (ends_in asker.old name.now) (is_configured asker.old.config name.now) name.now (listed_at named.now name.now) ∷ []) }
     ensures kept { asker.new ≡ asker.old }
 {
     let ends = asker.ends(alloc, name)?;
     let configured = asker.hosts().host(name).is_some();
-    match named.get(name) {
-        Some(listed) => put_server_line(alloc, lines, ends, configured, name, listed.items()),
-        None => put_server_line(alloc, lines, ends, configured, name, &[]),
-    }
+    let listed = listed_at(named, name);
+    put_server_line(alloc, lines, ends, configured, name, listed)
 }
 
 /// Puts the line of a name at the end, by what names it.
@@ -219,16 +219,6 @@ fn put_first_place(
             put_octets(alloc, columns, b"")
         }
     }
-}
-
-/// Puts columns at the end.
-fn put_all(alloc: Global, columns: &mut List<Octets>, more: &[Octets]) -> Result<(), NoMemory>
-    ensures { OnOk result (columns.new ≡ columns.old ++ more.now) }
-{
-    for column in more {
-        put_octets(alloc, columns, column.items())?;
-    }
-    Ok(())
 }
 
 /// The word of a name server's name.

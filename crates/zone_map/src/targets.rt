@@ -1,99 +1,49 @@
-//! The lines of records whose target leads nowhere.
+//! The lines of targets.
 
-ghost use Rattle.std.specs.Prelude.{◌≡◌, ◌⊎◌, ◌++◌, Some, IfOk, OnOk};
+ghost use Rattle.std.specs.Prelude.{◌≡◌, ◌++◌, ◌∷◌, [], Some, None, if◌then◌else◌, IfOk, OnOk};
 ghost use Rattle.std.specs.List.{flat_map};
-ghost use Rattle.net_model.specs.Step.{following};
-ghost use Rattle.run_endings.specs.Endings.{no_memory, with_output};
-ghost use Rattle.zone_map.specs.Targets.{IsTargets, line_by, row_lines, target_line, targets_status, targets_text, ends_word};
-ghost use Rattle.zone_map.specs.Rewrites.{most_rewrites};
-ghost use Rattle.zone_map.specs.TargetsAsked.{ends_in};
+ghost use Rattle.std.specs.Option.{option_map};
+ghost use Rattle.dns_data.specs.Spelling.{name_text};
+ghost use Rattle.name_ends.specs.Asked.{ends_in};
+ghost use Rattle.zone_map.specs.Records.{record_columns};
+ghost use Rattle.zone_map.specs.Targets.{are_partly_dead, ends_dead, host_of, is_name_server, is_pointer, is_reverse, kinds_text, leads_nowhere, leads_partly, record_lines, row_lines, seems_dead, target_columns, target_in, target_line, target_lines, targets_of, type_ends_text, word_if};
 
-use crate::columns::{put_name, put_tab};
-use crate::limits::REWRITES;
-use crate::records::put_columns;
-use crate::target_ends::{DeadEnds, TargetEnds, Targeting};
-use config_load::{Loaded, RowFiles};
-use dns_data::{List, Name, NoMemory, Octets, Rr};
-use plain_resolver::{LearntFault, MOST_WALKS_FOLLOWED, learnt_at};
-use run_endings::{Ending, Status};
+use crate::lines::{Line, put_columns_between, put_line, put_name_column, put_octets};
+use crate::records::record_columns;
+use config_load::RowFiles;
+use dns_data::{List, Name, NoMemory, Octets, Rdata, Rr};
+use name_ends::{Asker, NameEnds, TypeEnds};
 use std::alloc::Global;
-use zone_lookup::Hosts;
+use zone_cuts::has_servers;
+use zone_tree::Tree;
 
-/// What is told of the targets of records: a line for each that leads nowhere; or the first server whose name has too many
-/// walks to learn its address.
-pub(crate) fn targets_ending(alloc: Global, all: &Loaded) -> Ending
-    ensures { IsTargets all.now result ⊎ (result ≡ no_memory) }
-{
-    match Hosts::build(alloc, &all.config) {
-        Ok(hosts) => targets_at(alloc, &hosts, all.rows.items()),
-        Err(NoMemory) => Ending::no_memory(),
-    }
-}
-
-/// What is told of the targets of rows, where the trees of the configuration's zones are built.
-fn targets_at(alloc: Global, hosts: &Hosts<'_>, rows: &[RowFiles]) -> Ending
-    ensures { IsTargets (record { config = hosts.now; rows = rows.now }) result ⊎ (result ≡ no_memory) }
-{
-    let none = List::new(alloc);
-    match learnt_at(alloc, hosts, REWRITES, &none, MOST_WALKS_FOLLOWED) {
-        Ok(followed) => targets_while(alloc, hosts, followed.items(), rows),
-        Err(LearntFault::WalksPassed(server)) => {
-            Ending::too_many_to_learn(alloc, MOST_WALKS_FOLLOWED, &server)
-        }
-        Err(LearntFault::NoMemory) => Ending::no_memory(),
-    }
-}
-
-/// What is told of the targets of rows, while these servers are followed.
-fn targets_while(alloc: Global, hosts: &Hosts<'_>, followed: &[Name], rows: &[RowFiles]) -> Ending
-    ensures { let text = targets_text (ends_in (following hosts.now most_rewrites followed.now)) (record { config = hosts.now; rows = rows.now }) in
-        (result ≡ with_output (targets_status text) text) ⊎ (result ≡ no_memory) }
-{
-    match targets_text(alloc, hosts, followed, rows) {
-        Ok(text) => Ending::written(status_of(text.items()), Ok(text)),
-        Err(NoMemory) => Ending::no_memory(),
-    }
-}
-
-/// The status of lines.
-fn status_of(text: &[u8]) -> Status
-    ensures { result ≡ targets_status text.now }
-{
-    match text {
-        [] => Status::Clean,
-        _ => Status::Faults,
-    }
-}
-
-/// The lines of the records of rows, in order.
-fn targets_text(
+/// The lines of the targets of the records of rows, in order.
+pub(crate) fn targets_of(
     alloc: Global,
-    hosts: &Hosts<'_>,
-    followed: &[Name],
+    asker: &mut Asker<'_, '_>,
     rows: &[RowFiles],
-) -> Result<Octets, NoMemory>
-    ensures { IfOk result (λ text. text ≡ targets_text (ends_in (following hosts.now most_rewrites followed.now)) (record { config = hosts.now; rows = rows.now })) }
+) -> Result<List<Line>, NoMemory>
+    ensures { IfOk result (λ lines. lines ≡ targets_of (record { config = asker.old.config; rows = rows.now }) (ends_in asker.old)) }
 {
-    let mut targets = Targeting::new(alloc, hosts, followed, rows)?;
-    let mut text = Octets::new();
+    let mut lines = List::new(alloc);
     for row in rows {
-        put_row(alloc, &mut text, &mut targets, row)?;
+        put_row(alloc, &mut lines, asker, row)?;
     }
-    Ok(text)
+    Ok(lines)
 }
 
 /// Puts the lines of a row's records at the end.
 fn put_row(
     alloc: Global,
-    text: &mut Octets,
-    targets: &mut Targeting<'_, '_>,
+    lines: &mut List<Line>,
+    asker: &mut Asker<'_, '_>,
     row: &RowFiles,
 ) -> Result<(), NoMemory>
-    ensures text { OnOk result (text.new ≡ text.old ++ row_lines (ends_in targets.old.setting) targets.old.served targets.old.setting.config row.now) }
-    ensures kept { targets.new ≡ targets.old }
+    ensures lines { OnOk result (lines.new ≡ lines.old ++ row_lines (ends_in asker.old) asker.old.config row.now) }
+    ensures kept { asker.new ≡ asker.old }
 {
-    match targets.hosts().held_zone(&row.server, &row.origin) {
-        Some(tree) => put_records(alloc, text, targets, row, tree.zone().rrs.items()),
+    match asker.hosts().held_zone(&row.server, &row.origin) {
+        Some(tree) => put_records(alloc, lines, asker, row, tree, tree.zone().rrs.items()),
         None => Ok(()),
     }
 }
@@ -101,82 +51,261 @@ fn put_row(
 /// Puts the lines of records at the end.
 fn put_records(
     alloc: Global,
-    text: &mut Octets,
-    targets: &mut Targeting<'_, '_>,
+    lines: &mut List<Line>,
+    asker: &mut Asker<'_, '_>,
     row: &RowFiles,
+    tree: &Tree<'_>,
     rrs: &[Rr],
 ) -> Result<(), NoMemory>
-    ensures text { OnOk result (text.new ≡ text.old ++ flat_map (line_by (ends_in targets.old.setting) targets.old.served row.now) rrs.now) }
-    ensures kept { targets.new ≡ targets.old }
+    ensures lines { OnOk result (lines.new ≡ lines.old ++ flat_map (record_lines (ends_in asker.old) row.now tree.now.zone) rrs.now) }
+    ensures kept { asker.new ≡ asker.old }
 {
     for rr in rrs {
-        put_record(alloc, text, targets, row, rr)?;
+        put_record(alloc, lines, asker, row, tree, rr)?;
     }
     Ok(())
 }
 
-/// Puts the line of a record at the end, where its target leads nowhere.
+/// Puts the lines of a record at the end.
 fn put_record(
     alloc: Global,
-    text: &mut Octets,
-    targets: &mut Targeting<'_, '_>,
+    lines: &mut List<Line>,
+    asker: &mut Asker<'_, '_>,
     row: &RowFiles,
+    tree: &Tree<'_>,
     rr: &Rr,
 ) -> Result<(), NoMemory>
-    ensures text { OnOk result (text.new ≡ text.old ++ line_by (ends_in targets.old.setting) targets.old.served row.now rr.now) }
-    ensures kept { targets.new ≡ targets.old }
+    ensures lines { OnOk result (lines.new ≡ lines.old ++ record_lines (ends_in asker.old) row.now tree.now.zone rr.now) }
+    ensures kept { asker.new ≡ asker.old }
 {
-    match targets.target_of(row, rr) {
+    match target_in(tree, rr) {
         Some(target) => {
-            let ends = targets.ends(alloc, target)?;
-            put_target(alloc, text, row, rr, target, ends)
+            let ends = asker.ends(alloc, target)?;
+            put_target(alloc, lines, row, rr, target, &ends)
         }
         None => Ok(()),
     }
 }
 
-/// Puts the line of a record at the end, whose target's walks end so.
+/// Puts the lines of a record and its target at the end.
 fn put_target(
     alloc: Global,
-    text: &mut Octets,
+    lines: &mut List<Line>,
     row: &RowFiles,
     rr: &Rr,
     target: &Name,
-    ends: TargetEnds,
+    ends: &NameEnds,
 ) -> Result<(), NoMemory>
-    ensures { OnOk result (text.new ≡ text.old ++ target_line row.now rr.now target.now ends.four ends.six) }
+    ensures { OnOk result (lines.new ≡ lines.old ++ target_lines row.now rr.now target.now ends.now) }
 {
-    match (ends.four, ends.six) {
-        (Some(four), Some(six)) => put_line(alloc, text, row, rr, target, four, six),
-        _ => Ok(()),
+    let alias = ends.is_alias() && !is_pointer(&rr.rdata);
+    if !(leads_nowhere(ends) || leads_partly(ends) || alias) {
+        return Ok(());
+    }
+    let columns = target_columns(alloc, row, rr, target, ends)?;
+    put_if(alloc, lines, leads_nowhere(ends), true, &columns, "nowhere")?;
+    put_if(alloc, lines, leads_partly(ends), false, &columns, "partly")?;
+    put_if(
+        alloc,
+        lines,
+        alias,
+        is_name_server(&rr.rdata),
+        &columns,
+        "alias",
+    )
+}
+
+/// Puts the line of a word with these columns before it at the end, if it holds.
+fn put_if(
+    alloc: Global,
+    lines: &mut List<Line>,
+    holds: bool,
+    counts: bool,
+    columns: &List<Octets>,
+    word: &str,
+) -> Result<(), NoMemory>
+    ensures { OnOk result (lines.new ≡ lines.old ++ target_line holds counts columns.now word.now) }
+{
+    if !holds {
+        return Ok(());
+    }
+    let mut all = columns.copy(alloc)?;
+    put_octets(alloc, &mut all, word.as_bytes())?;
+    put_line(alloc, lines, counts, all.items())
+}
+
+/// The columns of a line before its word: those of the record, the target, and the ends of its walks.
+fn target_columns(
+    alloc: Global,
+    row: &RowFiles,
+    rr: &Rr,
+    target: &Name,
+    ends: &NameEnds,
+) -> Result<List<Octets>, NoMemory>
+    ensures { IfOk result (λ columns. columns ≡ target_columns row.now rr.now target.now ends.now) }
+{
+    let mut columns = record_columns(alloc, row, rr)?;
+    put_name_column(alloc, &mut columns, target)?;
+    columns.push(type_ends_text(alloc, &ends.four)?)?;
+    columns.push(type_ends_text(alloc, &ends.six)?)?;
+    Ok(columns)
+}
+
+/// The ends of the walks of a type, or that there are more walks than are followed.
+fn type_ends_text(alloc: Global, ends: &Option<TypeEnds>) -> Result<Octets, NoMemory>
+    ensures { IfOk result (λ text. text ≡ type_ends_text ends.now) }
+{
+    match ends {
+        Some(ends) => kinds_text(alloc, ends),
+        None => Octets::from_octets(alloc, b"too many walks"),
     }
 }
 
-/// Puts the columns of a record, its target and the words of both ends at the end, and a line feed.
-fn put_line(
-    alloc: Global,
-    text: &mut Octets,
-    row: &RowFiles,
-    rr: &Rr,
-    target: &Name,
-    four: DeadEnds,
-    six: DeadEnds,
-) -> Result<(), NoMemory>
-    ensures { OnOk result (text.new ≡ text.old ++ target_line row.now rr.now target.now (Some four) (Some six)) }
+/// The words of the kinds of ends that some walk has, with a comma between.
+fn kinds_text(alloc: Global, ends: &TypeEnds) -> Result<Octets, NoMemory>
+    ensures { IfOk result (λ text. text ≡ kinds_text ends.now) }
 {
-    put_columns(alloc, text, row, rr)?;
-    put_tab(alloc, text)?;
-    put_name(alloc, text, target)?;
-    put_tab(alloc, text)?;
-    put_word(alloc, text, four)?;
-    put_tab(alloc, text)?;
-    put_word(alloc, text, six)?;
-    text.push(alloc, b'\n')
+    let told = [
+        (ends.answer, "answer"),
+        (ends.no_data, "nodata"),
+        (ends.no_name, "nxdomain"),
+        (ends.outside, "outside"),
+        (ends.unhosted, "unhosted"),
+        (ends.lame, "lame"),
+        (ends.no_address, "no-address"),
+        (ends.limit, "limit"),
+        (ends.overlong, "overlong"),
+    ];
+    let words = words_if(alloc, &told)?;
+    let mut text = Octets::new();
+    put_columns_between(alloc, &mut text, b",", words.items())?;
+    Ok(text)
 }
 
-/// Puts the word of ends at the end.
-fn put_word(alloc: Global, text: &mut Octets, ends: DeadEnds) -> Result<(), NoMemory>
-    ensures { OnOk result (text.new ≡ text.old ++ ends_word ends) }
+/// The words that are told.
+fn words_if(alloc: Global, told: &[(bool, &str)]) -> Result<List<Octets>, NoMemory>
+    ensures { IfOk result (λ words. words ≡ flat_map (λ one. word_if one.0 one.1.now) told.now) }
 {
-    text.extend_from_slice(alloc, ends.word().as_bytes())
+    let mut words = List::new(alloc);
+    for one in told {
+        put_word_if(alloc, &mut words, one.0, one.1)?;
+    }
+    Ok(words)
+}
+
+/// Puts a word at the end, if it is told.
+fn put_word_if(
+    alloc: Global,
+    words: &mut List<Octets>,
+    told: bool,
+    word: &str,
+) -> Result<(), NoMemory>
+    ensures { OnOk result (words.new ≡ words.old ++ word_if told word.now) }
+{
+    if told {
+        put_octets(alloc, words, word.as_bytes())?;
+    }
+    Ok(())
+}
+
+/// Whether of both types each walk ends in no data or in no such name, or there are more than are followed.
+fn leads_nowhere(ends: &NameEnds) -> bool
+    ensures { result ≡ leads_nowhere ends.now }
+{
+    seems_dead(&ends.four) && seems_dead(&ends.six)
+}
+
+/// Whether no walk of a type is known that ends otherwise than in no data or in no such name.
+fn seems_dead(ends: &Option<TypeEnds>) -> bool
+    ensures { result ≡ seems_dead ends.now }
+{
+    match ends {
+        Some(ends) => ends.only_dead(),
+        None => true,
+    }
+}
+
+/// Whether a walk that leads out of what is configured may find the name, and none inside does.
+fn leads_partly(ends: &NameEnds) -> bool
+    ensures { result ≡ leads_partly ends.now }
+{
+    !leads_nowhere(ends) && are_partly_dead(&ends.four, &ends.six)
+}
+
+/// Whether of both types no walk ends in an answer, and some walk ends in no data or in no such name.
+fn are_partly_dead(four: &Option<TypeEnds>, six: &Option<TypeEnds>) -> bool
+    ensures { result ≡ are_partly_dead four.now six.now }
+{
+    match (four, six) {
+        (Some(four), Some(six)) => {
+            !(four.answer || six.answer) && (ends_dead(four) || ends_dead(six))
+        }
+        _ => false,
+    }
+}
+
+/// Whether some walk ends in no data or in no such name.
+fn ends_dead(ends: &TypeEnds) -> bool
+    ensures { result ≡ ends_dead ends.now }
+{
+    ends.no_data || ends.no_name
+}
+
+/// Whether the data are a pointer.
+fn is_pointer(rdata: &Rdata) -> bool
+    ensures { result ≡ is_pointer rdata.now }
+{
+    matches!(rdata, Rdata::Ptr(_))
+}
+
+/// Whether the data name a name server.
+fn is_name_server(rdata: &Rdata) -> bool
+    ensures { result ≡ is_name_server rdata.now }
+{
+    matches!(rdata, Rdata::Ns(_))
+}
+
+/// The target of a record of a zone, if it is looked at.
+fn target_in<'r>(tree: &Tree<'_>, rr: &'r Rr) -> Option<&'r Name>
+    ensures { option_map (λ target. target.now) result ≡ target_in tree.now.zone rr.now.owner rr.now.rdata }
+{
+    match &rr.rdata {
+        Rdata::Mx { exchange, .. } => host_of(exchange),
+        Rdata::Srv { target, .. } => host_of(target),
+        Rdata::Ns(target) => target_if(has_servers(tree, &rr.owner), target),
+        Rdata::Ptr(target) => target_if(is_reverse(&tree.zone().origin), target),
+        _ => None,
+    }
+}
+
+/// The host of a mail exchange or a service, none where the name is the root (RFC 7505 section 3, RFC 2782).
+fn host_of(name: &Name) -> Option<&Name>
+    ensures { option_map (λ host. host.now) result ≡ host_of name.now }
+{
+    if name.labels().is_empty() {
+        None
+    } else {
+        Some(name)
+    }
+}
+
+/// The target, if it is looked at.
+fn target_if(looked_at: bool, target: &Name) -> Option<&Name>
+    ensures { option_map (λ target. target.now) result ≡ (if looked_at then Some target.now else None) }
+{
+    if looked_at { Some(target) } else { None }
+}
+
+/// Whether the name is at or below `in-addr.arpa.` or `ip6.arpa.` (RFC 1035 section 3.5, RFC 3596 section 2.5).
+fn is_reverse(name: &Name) -> bool
+    ensures { result ≡ is_reverse name.now }
+{
+    let labels = name.labels();
+    let Some((top, below)) = labels.split_first() else {
+        return false;
+    };
+    let Some((next, _)) = below.split_first() else {
+        return false;
+    };
+    top == "arpa".as_bytes() && (next == "in-addr".as_bytes() || next == "ip6".as_bytes())
 }

@@ -1,9 +1,9 @@
 //! Which rows' zones are equal copies of those of earlier rows.
 
-ghost use Rattle.std.specs.Prelude.{◌≡◌, ◌++◌, ◌∷◌, [], true, not, List as Items, IfOk, OnOk};
+ghost use Rattle.std.specs.Prelude.{◌≡◌, ◌++◌, ◌∷◌, [], map, true, not, List as Items, if◌then◌else◌, IfOk, OnOk};
 ghost use Rattle.std.specs.BTreeSet as tree;
 ghost use Rattle.config_load.specs.declared.loaded.RowFiles.{RowFiles as RowValue};
-ghost use Rattle.zone_map.specs.Copies.{is_first_copy};
+ghost use Rattle.zone_map.specs.Copies.{first_copies, is_first_copy};
 ghost use Rattle.zone_map.specs.FirstCopies.{KnowsCopies, key_cmp, key_of};
 
 use crate::copies::row_version;
@@ -19,6 +19,33 @@ use zone_copies::Version;
 pub(crate) struct CopyKey {
     pub origin: Name,
     pub others: List<Octets>,
+}
+
+/// The rows of which no earlier one's zone is an equal copy, in order.
+pub(crate) fn first_copies<'r>(
+    alloc: Global,
+    config: &Config,
+    rows: &[&'r RowFiles],
+) -> Result<List<&'r RowFiles>, NoMemory>
+    ensures { IfOk result (λ firsts. map (λ row. row.now) firsts ≡ first_copies config.now (map (λ row. row.now) rows.now)) }
+{
+    let mut known = BTreeSet::new(alloc);
+    let mut firsts = List::new(alloc);
+    for row in rows {
+        let is_first = is_first_copy(alloc, &mut known, config, *row)?;
+        put_if(&mut firsts, is_first, *row)?;
+    }
+    Ok(firsts)
+}
+
+/// Puts a row at the end, if it is so.
+fn put_if<'r>(rows: &mut List<&'r RowFiles>, holds: bool, row: &'r RowFiles) -> Result<(), NoMemory>
+    ensures { OnOk result (rows.new ≡ rows.old ++ (if holds then row.entry ∷ [] else [])) }
+{
+    if holds {
+        rows.push(row)?;
+    }
+    Ok(())
 }
 
 /// Whether no row before this one is an equal copy. What the row's zone has in common with its copies is kept for the rows

@@ -21,6 +21,10 @@ pub enum MapView {
     Copies,
     /// Each name of a name server.
     Servers,
+    /// Each alias into another zone of its server that resolvers see otherwise.
+    Aliases,
+    /// The DS records of zone cuts, beside the keys of the delegated zones.
+    Chain,
 }
 
 /// What is asked for, over which metadata file.
@@ -32,13 +36,15 @@ pub struct MapJob {
 
 impl MapView {
     /// What may be asked for.
-    const ALL: [MapView; 6] = [
+    const ALL: [MapView; 8] = [
         MapView::Records,
         MapView::Reached,
         MapView::Targets,
         MapView::Delegations,
         MapView::Copies,
         MapView::Servers,
+        MapView::Aliases,
+        MapView::Chain,
     ];
 
     /// The word for what is asked for.
@@ -52,6 +58,8 @@ impl MapView {
             MapView::Delegations => "delegations",
             MapView::Copies => "copies",
             MapView::Servers => "servers",
+            MapView::Aliases => "aliases",
+            MapView::Chain => "chain",
         }
     }
 
@@ -67,7 +75,7 @@ impl MapView {
 }
 
 /// The job that the words ask for, or none.
-pub fn read_words(alloc: Global, words: &[&str]) -> Result<Option<MapJob>, NoMemory>
+pub(crate) fn read_words(alloc: Global, words: &[&str]) -> Result<Option<MapJob>, NoMemory>
     ensures { IfOk result (λ job. job ≡ job_of (map (λ word. word.now) words.now)) }
 {
     let [word, meta] = words else {
@@ -103,5 +111,5 @@ fn job_over(alloc: Global, meta: &str, asked: Option<MapView>) -> Result<Option<
 pub(crate) fn usage_line() -> &'static str
     ensures { result.now ≡ usage_line }
 {
-    "usage: groot-map records META | reached META | targets META | delegations META | copies META | servers META\n"
+    "usage: groot-map records META | reached META | targets META | delegations META | copies META | servers META | aliases META | chain META\n"
 }

@@ -1,20 +1,23 @@
--- The words that the top call is given are those that were handed over.
-use Rattle.std.proofs.Common.{◌≡◌, ◌⊎◌, ◌∙◌, ℕ, List, Bor, map, ap, subst}
-use Rattle.std.specs.Io.KnownBytes.{Appends}
-use Rattle.io_edges.specs.Counts.{Rose}
-use Rattle.run_endings.specs.declared.ending.Ending.{Ending}
-use Rattle.run_endings.specs.declared.status.Status.TheVariants.{NoMemory}
-use Rattle.zone_map.specs.Outcome.{NoJobReadFailed, Outcome}
-use Rattle.zone_map.specs.Words.{job_of}
+use Rattle.std.proofs.Common.{◌≡◌, ◌∙◌, ℕ, List, Bor, map, ap, refl, subst}
+use Rattle.std.proofs.KnownBytes.{Appends-nil}
+use Rattle.run_endings.proofs.Written.{ran_out}
+use Rattle.run_endings.specs.Runs.{FilesOfRun, OutputOfRun}
+use Rattle.run_endings.specs.declared.status.Status.{Status}
+use Rattle.zone_map.specs.Runs.{RunsAsAsked}
 use Rattle.groot_map.proofs.run.Goals as goal
 
+-- a run of words is one of the same words
+of_same : (files : FilesOfRun) (out err : OutputOfRun) (status : Status) (one other : List (List ℕ)) → one ≡ other
+    → RunsAsAsked one files out err status → RunsAsAsked other files out err status
+of_same files out err status one other same = subst (λ (words : List (List ℕ)). RunsAsAsked words files out err status) same
+
+-- the words that the top call is given are those that were handed over
 pub returns-in-Ok : goal.returns-in-Ok
 returns-in-Ok g c =
-    let told = g.F.Files.told c.groot_map.new.files in
-    subst
-    (λ (said : List (List ℕ)). NoJobReadFailed told (job_of said) (g.F.Files.faults c.args.files.now) (g.F.Files.faults c.groot_map.new.files)
-    → (Rose (g.O.Sink.faults c.args.out.now) (g.O.Sink.faults c.groot_map.new.out) → ⊥)
-    → ((ending : Ending) × Outcome told (job_of said) ending
-    × (c.groot_map.result ≡ ending.status) × Appends (g.O.Sink.taken c.args.out.now) (g.O.Sink.taken c.groot_map.new.out) ending.out)
-    ⊎ (c.groot_map.result ≡ NoMemory))
-    (ap (map (λ (word : Bor (List ℕ)). word.now)) c.as_slice.ensures.value ∙ c.in-Ok.ensures) c.groot_map.ensures.complete
+    of_same _ _ _ c.groot_map.result _ _ (ap (map (λ (word : Bor (List ℕ)). word.now)) c.as_slice.ensures.value ∙ c.in-Ok.ensures) c.groot_map.ensures.run
+
+-- where memory runs out for the words, nothing else is done
+pub returns-in-Err : goal.returns-in-Err
+returns-in-Err g c =
+    let told = c.tell_no_memory.ensures in
+    ran_out _ _ _ _ _ c.tell_no_memory.result refl (Appends-nil _, Appends-nil _) (told.took, told.passed) told.status

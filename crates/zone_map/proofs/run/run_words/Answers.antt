@@ -1,29 +1,40 @@
-use Rattle.std.proofs.Common.{Option, subst, sym, ◌∙◌}
-use Rattle.zone_map.proofs.Endings.{complete, cause, read_fault, no_write_fault, silent}
+use Rattle.std.proofs.Common.{Option, inl, inr, refl, ap, subst, sym, ◌∙◌}
+use Rattle.run_endings.specs.Endings.{without_output}
+use Rattle.run_endings.specs.declared.status.Status.TheVariants.{Usage}
+use Rattle.zone_map.proofs.Endings.{as_asked}
+use Rattle.zone_map.specs.JobEnds.{JobEnds}
 use Rattle.zone_map.specs.Outcome.{JobOpensNoOther}
 use Rattle.zone_map.specs.declared.words.MapJob.{MapJob}
 use Rattle.zone_map.proofs.run.run_words.Goals as goal
 
-pub returns-in-Ok-Some-clause-complete : goal.returns-in-Ok-Some-clause-complete
-returns-in-Ok-Some-clause-complete g c =
-    complete (g.F.Files.told c.of_job.new.files) _ (g.F.Files.faults c.args.files.now) (g.F.Files.faults c.of_job.new.files) c.in-Ok-Some.job (sym c.in-Ok-Some.ensures ∙ c.in-Ok-Some.field-0-is) c.of_job.result c.of_job.ensures.cause
+pub returns-in-Ok-Some : goal.returns-in-Ok-Some
+returns-in-Ok-Some g c =
+    let same = sym c.in-Ok-Some.ensures ∙ c.in-Ok-Some.field-0-is in
+    let told = g.F.Files.told c.args.files.now in
+    let after = g.F.Files.told c.of_job.new.files in
+    let before = g.F.Files.faults c.args.files.now in
+    let faults = g.F.Files.faults c.of_job.new.files in
+    record {
+      run =
+          as_asked after _ before faults c.of_job.result
+          (subst (λ (job : Option MapJob). JobEnds after job before faults c.of_job.result) (sym same) c.of_job.ensures.cause)
+          told c.of_job.ensures.from_the_start (subst (λ (job : Option MapJob). JobOpensNoOther told after job) (sym same) c.of_job.ensures.opens);
+    }
 
-pub returns-in-Ok-Some-clause-cause : goal.returns-in-Ok-Some-clause-cause
-returns-in-Ok-Some-clause-cause g c =
-    cause (g.F.Files.told c.of_job.new.files) _ (g.F.Files.faults c.args.files.now) (g.F.Files.faults c.of_job.new.files) c.in-Ok-Some.job (sym c.in-Ok-Some.ensures ∙ c.in-Ok-Some.field-0-is) c.of_job.result c.of_job.ensures.cause
+pub returns-in-Ok-None : goal.returns-in-Ok-None
+returns-in-Ok-None g c =
+    let same = sym c.in-Ok-None.ensures ∙ c.in-Ok-None.field-0-is in
+    let told = g.F.Files.told c.args.files.now in
+    let faults = g.F.Files.faults c.args.files.now in
+    record {
+      run =
+          as_asked told _ faults faults c.usage.result
+          (subst (λ (job : Option MapJob). JobEnds told job faults faults c.usage.result) (sym same) (inl (c.usage.ensures ∙ ap (without_output Usage) c.usage_line.ensures)))
+          told (λ tells. refl) (λ file. inl refl);
+    }
 
-pub returns-in-Ok-Some-clause-read_fault : goal.returns-in-Ok-Some-clause-read_fault
-returns-in-Ok-Some-clause-read_fault g c =
-    read_fault (g.F.Files.told c.of_job.new.files) _ (g.F.Files.faults c.args.files.now) (g.F.Files.faults c.of_job.new.files) c.in-Ok-Some.job (sym c.in-Ok-Some.ensures ∙ c.in-Ok-Some.field-0-is) c.of_job.result c.of_job.ensures.cause
-
-pub returns-in-Ok-Some-clause-no_write_fault : goal.returns-in-Ok-Some-clause-no_write_fault
-returns-in-Ok-Some-clause-no_write_fault g c =
-    no_write_fault (g.F.Files.told c.of_job.new.files) _ (g.F.Files.faults c.args.files.now) (g.F.Files.faults c.of_job.new.files) c.in-Ok-Some.job (sym c.in-Ok-Some.ensures ∙ c.in-Ok-Some.field-0-is) c.of_job.result c.of_job.ensures.cause
-
-pub returns-in-Ok-Some-clause-silent : goal.returns-in-Ok-Some-clause-silent
-returns-in-Ok-Some-clause-silent g c =
-    silent (g.F.Files.told c.of_job.new.files) _ (g.F.Files.faults c.args.files.now) (g.F.Files.faults c.of_job.new.files) c.in-Ok-Some.job (sym c.in-Ok-Some.ensures ∙ c.in-Ok-Some.field-0-is) c.of_job.result c.of_job.ensures.cause
-
-pub returns-in-Ok-Some-clause-opens : goal.returns-in-Ok-Some-clause-opens
-returns-in-Ok-Some-clause-opens g c =
-    subst (λ (job : Option MapJob). JobOpensNoOther (g.F.Files.told c.args.files.now) (g.F.Files.told c.of_job.new.files) job) (sym (sym c.in-Ok-Some.ensures ∙ c.in-Ok-Some.field-0-is)) c.of_job.ensures.opens
+pub returns-in-Err : goal.returns-in-Err
+returns-in-Err g c =
+    let told = g.F.Files.told c.args.files.now in
+    let faults = g.F.Files.faults c.args.files.now in
+    record { run = as_asked told _ faults faults c.no_memory.result (inr (inr c.no_memory.ensures)) told (λ tells. refl) (λ file. inl refl) }

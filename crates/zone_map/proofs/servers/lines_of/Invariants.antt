@@ -2,12 +2,12 @@
 use Rattle.std.proofs.Common.{◌≡◌, map, take}
 use Rattle.net_model.specs.Nearest.{is_configured}
 use Rattle.name_ends.specs.Asked.{ends_in}
-use Rattle.zone_map.specs.Namings.{named_in}
+use Rattle.zone_map.specs.NameLists.{listed_at}
 use Rattle.zone_map.specs.Servers.{server_line}
 use Rattle.zone_map.proofs.servers.lines_of.Given as goal
 
 abbrev pub invariant-loop-name : goal.invariant-loop-name
 invariant-loop-name l = record {
-  lines : l.lines ≡ map (λ name. server_line (ends_in l.fn.asker name) (is_configured l.fn.asker.config name) name (named_in l.named name)) (take l.name-index l.names);
+  lines : l.lines ≡ map (λ name. server_line (ends_in l.fn.asker name) (is_configured l.fn.asker.config name) name (listed_at l.named name)) (take l.name-index l.names);
   kept : l.asker ≡ l.fn.asker;
 }

@@ -1,0 +1,4 @@
+mod EndsAtOnce
+pub mod KnownAnswers
+pub mod ToldAliases
+mod TypesAlike

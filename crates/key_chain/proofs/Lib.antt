@@ -1,0 +1,4 @@
+mod LeafFirst
+mod OctetSums
+mod Worked
+mod WorkedDigests
