@@ -1,4 +1,4 @@
-# Completion of groot, groot-large, groot-map, groot-metadata, groot-gate and groot-changed in bash.
+# Completion of groot, groot-large, groot-map, groot-metadata, groot-gate, groot-changed and groot-changes in bash.
 
 # The options of a command.
 _groot_options() {
@@ -57,18 +57,24 @@ _groot_metadata() {
     esac
 }
 
-_groot_gate_options="--old --old-targets --old-delegations --old-copies --old-servers --unasked --into --classes --rewrites --workers --without-map --version --help"
+_groot_kinds="alias-differs aliased-name-server answers-differ bad-dnssec-data blackhole copy-differs cyclic-dependency dead-name-server delegation-differs"
+_groot_kinds+=" forgotten-row glue-differs lame-delegation misplaced-ds missing-glue no-address no-matching-key overlong rewrite-limit target-without-address unreached-row unsigned-zone"
+_groot_gate_options="--old --off --unasked --into --classes --rewrites --workers --without-map --version --help"
 
 _groot_gate() {
     local word=${COMP_WORDS[COMP_CWORD]} before=${COMP_WORDS[COMP_CWORD - 1]} place meta=
     COMPREPLY=()
     case $before in
         --unasked | --classes | --rewrites | --workers) return ;;
-        --old | --old-targets | --old-delegations | --old-copies | --old-servers | --into) _groot_files "$word" ; return ;;
+        --off)
+            mapfile -t COMPREPLY < <(compgen -W "$_groot_kinds" -- "$word")
+            return
+            ;;
+        --old | --into) _groot_files "$word" ; return ;;
     esac
     for ((place = 1; place < COMP_CWORD; place++)); do
         case ${COMP_WORDS[place]} in
-            --old | --old-targets | --old-delegations | --old-copies | --old-servers | --into | --unasked | --classes | --rewrites | --workers) ((place++)) ;;
+            --old | --off | --into | --unasked | --classes | --rewrites | --workers) ((place++)) ;;
             --*) ;;
             *) meta=yes ;;
         esac
@@ -95,11 +101,23 @@ _groot_changed() {
     fi
 }
 
+_groot_changes() {
+    local word=${COMP_WORDS[COMP_CWORD]} before=${COMP_WORDS[COMP_CWORD - 1]}
+    COMPREPLY=()
+    if [[ $before == --below ]]; then
+        return
+    elif [[ $word == -* ]]; then
+        mapfile -t COMPREPLY < <(compgen -W "--without-soa --below --version --help" -- "$word")
+    else
+        _groot_files "$word"
+    fi
+}
+
 _groot_map() {
     local word=${COMP_WORDS[COMP_CWORD]}
     COMPREPLY=()
     case $COMP_CWORD in
-        1) mapfile -t COMPREPLY < <(compgen -W "records reached targets delegations copies servers" -- "$word") ;;
+        1) mapfile -t COMPREPLY < <(compgen -W "records reached targets delegations copies servers aliases chain" -- "$word") ;;
         2) _groot_files "$word" ;;
     esac
 }
@@ -109,3 +127,4 @@ complete -F _groot_map groot-map
 complete -F _groot_metadata groot-metadata
 complete -F _groot_gate groot-gate
 complete -F _groot_changed groot-changed
+complete -F _groot_changes groot-changes

@@ -1,5 +1,5 @@
-#compdef groot groot-large groot-map groot-metadata groot-gate groot-changed
-# Completion of groot, groot-large, groot-map, groot-metadata, groot-gate and groot-changed in zsh; it is installed as _groot.
+#compdef groot groot-large groot-map groot-metadata groot-gate groot-changed groot-changes
+# Completion of groot, groot-large, groot-map, groot-metadata, groot-gate, groot-changed and groot-changes in zsh; it is installed as _groot.
 
 _groot_commands=(
     'check:report every fault that some query shows'
@@ -18,6 +18,8 @@ _groot_lists=(
     'delegations:name servers of cuts and origins'
     'copies:zones that differ between servers'
     'servers:names of name servers'
+    'aliases:aliases into zones beside'
+    'chain:DS records and keys'
 )
 _groot_types=(A NS CNAME SOA PTR HINFO MX TXT AAAA SRV DNAME CAA)
 _groot_limits=(
@@ -79,11 +81,8 @@ _groot() {
         groot-map) _groot_map ;;
         groot-metadata) _arguments $_groot_of_metadata '--output[the metadata file]:file:_files' $_groot_about ;;
         groot-gate)
-            _arguments '--old[a report whose faults are known]:report:_files' \
-                '--old-targets[a list of targets that are known]:list:_files' \
-                '--old-delegations[a list of delegations that are known]:list:_files' \
-                '--old-copies[a list of copies that are known]:list:_files' \
-                '--old-servers[a list of servers that are known]:list:_files' \
+            _arguments '--old[findings that are known]:findings:_files' \
+                '*--off[a kind of findings that is left out]:kind:(alias-differs aliased-name-server answers-differ bad-dnssec-data blackhole copy-differs cyclic-dependency dead-name-server delegation-differs forgotten-row glue-differs lame-delegation misplaced-ds missing-glue no-address no-matching-key overlong rewrite-limit target-without-address unreached-row unsigned-zone)' \
                 '*--unasked[a server whose rows no query needs to reach]:server:' \
                 '--into[where the files go]:folder:_files -/' \
                 '--without-map[do without groot-map]' \
@@ -92,6 +91,10 @@ _groot() {
         groot-changed)
             _arguments '--since[the commit since which files count]:commit:' '--names[print the names of the zones alone]' \
                 $_groot_about '1:metadata:_files'
+            ;;
+        groot-changes)
+            _arguments '--without-soa[do not ask for SOA]' '--below[ask for names at or below this one alone]:name:' \
+                $_groot_about '1:metadata before:_files' '2:metadata after:_files'
             ;;
     esac
 }

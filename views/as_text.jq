@@ -1,5 +1,7 @@
 # What is wrong and what mends it, for a terminal.
-include "report" {search: "./"};
+include "names" {search: "./"};
+include "entries" {search: "./"};
+include "cause" {search: "./"};
 
 # A cause. A line that begins with a name, which is another's word, begins with a dash, so that no runner of pipelines obeys it.
 def paragraph: "",
@@ -10,5 +12,5 @@ def paragraph: "",
   "  \(.asked)",
   (.walks | to_entries[] | (select(.key > 0) | "  or"), (.value | shortened[] | "    -> \(.who): \(.says)"));
 
-# The lines of a report with its causes.
-def lines($causes): summary($causes), ($causes | sections[] | "", .[0].section, (.[] | paragraph)) | shown;
+# The lines of findings with their causes.
+def lines($causes): summary($causes), grave, about, left_out, ($causes | group_by(.part)[] | "", parts[.[0].part], (sections[] | "", .[0].section, (.[] | paragraph)));

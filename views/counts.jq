@@ -1,4 +1,4 @@
-# A line for each kind and zone with its number of faults, separated by tabs: jq -rf views/counts.jq report.json
-include "report" {search: "./"};
+# A line for each kind and zone with its number of findings, separated by tabs: jq -rf views/counts.jq report.json
+include "found" {search: "./"};
 
-counts[] | "\(.kind | shown)\t\(.zone | shown)\t\(.number)"
+findings($ARGS.named) | counts[] | "\(.kind)\t\(.zone)\t\(.number)"

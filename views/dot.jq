@@ -1,7 +1,8 @@
 # Walks as a graph for Graphviz: jq -rf views/dot.jq report.json | dot -Tsvg >report.svg
 # One entry, counted from 1 as groot recheck counts them, with --argjson entry 3; those of a zone with --arg zone example. Of entries that differ in
 # their type alone the first is drawn, unless one is asked for.
-include "report" {search: "./"};
+include "names" {search: "./"};
+include "entries" {search: "./"};
 
 def red: if . then ", color=red, fontcolor=red" else "" end;
 # Nodes are known by what stands in them, a text for each line.

@@ -1,6 +1,6 @@
-# A report as one page for a browser: jq -rf views/html.jq report.json >report.html
-# With --arg about TEXT the page says where the report comes from.
-include "report" {search: "./"};
+# Findings as one page for a browser: jq -rf views/html.jq report.json >report.html
+include "found" {search: "./"};
+include "cause" {search: "./"};
 import "as_page" as page {search: "./"};
 
-causes($ARGS.named) as $causes | page::lines($causes; $ARGS.named.about)
+findings($ARGS.named) | causes as $causes | page::lines($causes)

@@ -2,13 +2,14 @@
 """Runs the views on their cases: run.py [CASE ..]
 
 A case is a folder of cases/: report.json, what each view must make of it (VIEW.out, or VIEW-NAME.out with the words of
-VIEW-NAME.args), records.tsv, targets.tsv, reached.tsv and lines.tsv if the views get these lists, and old.json for new.jq. A
+VIEW-NAME.args), the lists of groot-map that the views get, as records.tsv, and old.json, a report or findings that are known. A
 file `example` has the name of an example, whose report is taken; then records.tsv has what `groot-map records` prints of its
 metadata, which is compared if that program is there. Of html.jq the body is compared, and of sarif.jq the results. Besides,
 what each view makes of each case is read back: HTML, XML and SARIF must hold what the report says, all.jq must make the same,
 and DOT is drawn if `dot` is there, and pages are loaded if `chromium` is there. It ends with status 1 if a case is wrong, and
 with 2 if there is no jq.
 """
+import concurrent.futures
 import difflib
 import functools
 import html.parser
@@ -20,21 +21,19 @@ import subprocess
 import sys
 import tempfile
 import xml.etree.ElementTree
-from typing import Any, Callable, Dict, Iterator, List, Optional, Sequence, Set, Tuple
+from typing import Any, Callable, Dict, Iterator, List, Optional, Sequence, Tuple
 
 HERE = os.path.dirname(os.path.abspath(__file__))
 TOP = os.path.dirname(HERE)
 Json = Dict[str, Any]
 
 CASES = os.path.join(HERE, "cases")
-KINDS = ["answers-differ", "blackhole", "copy-differs", "cyclic-dependency", "dead-name-server", "delegation-differs",
-         "forgotten-row", "glue-differs", "lame-delegation", "missing-glue", "no-address", "overlong", "rewrite-limit",
-         "target-without-address", "unreached-row"]
-ALL = ["text", "html", "sarif", "junit"]
-LISTS = ["records", "targets", "reached", "lines", "delegations", "copies", "servers"]
-WORDS = {"lame": "lame-delegation", "differs": "delegation-differs", "no-glue": "missing-glue", "glue-differs": "glue-differs",
-         "dead": "dead-name-server", "behind": "copy-differs", "ahead": "copy-differs", "forgotten": "copy-differs", "apart": "copy-differs",
-         "no-row": "forgotten-row"}
+KINDS = ["alias-differs", "aliased-name-server", "answers-differ", "bad-dnssec-data", "blackhole", "copy-differs", "cyclic-dependency",
+         "dead-name-server", "delegation-differs", "forgotten-row", "glue-differs", "lame-delegation", "misplaced-ds", "missing-glue",
+         "no-address", "no-matching-key", "overlong", "rewrite-limit", "target-without-address", "unreached-row", "unsigned-zone"]
+MEMBERS = {"kind", "level", "from", "zone", "place", "at", "file", "line", "mend", "key"}
+ALL = ["new", "findings", "text", "html", "sarif", "junit"]
+LISTS = ["records", "lines", "delegations", "servers", "targets", "aliases", "copies", "reached", "chain"]
 OBEYED = re.compile("[\x00-\x1f\x7f-\x9f\u061c\u200b-\u200f\u2028-\u202e\u2060-\u2069\ufeff\ufffe\uffff]")
 DOT_TEXT = r'"(?:[^"\\]|\\.)*"'
 DOT_LINE = re.compile(rf"digraph groot {{|  rankdir=LR;|  {DOT_TEXT}( -> {DOT_TEXT})? \[label={DOT_TEXT}(, [a-z]+=[a-z]+)*\];|}}")
@@ -64,9 +63,9 @@ def view(name: str, folder: str, more: Tuple[str, ...] = ()) -> Tuple[int, str, 
     for given in LISTS:
         if os.path.exists(os.path.join(folder, f"{given}.tsv")):
             words += ["--rawfile", given, f"{given}.tsv"]
-    if name == "new" and os.path.exists(os.path.join(folder, "old.json")):
+    if os.path.exists(os.path.join(folder, "old.json")):
         words += ["--slurpfile", "old", "old.json"]
-    ended = subprocess.run(["jq", "-cf" if name in ("new", "all") else "-rf", os.path.join(HERE, f"{name}.jq"), *words, report_of(folder)],
+    ended = subprocess.run(["jq", "-cf" if name in ("new", "all", "findings") else "-rf", os.path.join(HERE, f"{name}.jq"), *words, report_of(folder)],
                            cwd=folder, stdin=subprocess.DEVNULL, capture_output=True)
     return ended.returncode, ended.stdout.decode(), ended.stderr.decode()
 
@@ -148,7 +147,7 @@ def faults_of_html(text: str, report: Json) -> Iterator[str]:
     page = Page(text)
     if page.open:
         yield f"{page.open} aren't closed"
-    if set(page.tags) - {"html", "head", "meta", "title", "style", "body", "h1", "h2", "h3", "p", "table", "tr", "th", "td", "a", "section",
+    if set(page.tags) - {"html", "head", "meta", "title", "style", "body", "h1", "h2", "h3", "h4", "p", "table", "tr", "th", "td", "a", "section",
                          "article", "ul", "ol", "li", "b", "code", "wbr"}:
         yield f"tags {sorted(set(page.tags))}"
     if len(set(page.ids)) != len(page.ids):
@@ -261,13 +260,25 @@ READ_BACK: Dict[str, Callable[[str, Json], Iterator[str]]] = {
     "html": faults_of_html, "junit": faults_of_junit, "sarif": faults_of_sarif, "dot": faults_of_dot}
 
 
-def kinds_of(report: Json, folder: str) -> Set[str]:
-    """The kinds that the views must show of a case: those of its faults, and of what the lists of groot-map say."""
-    lists = {given: contents(folder, f"{given}.tsv") for given in LISTS if os.path.exists(os.path.join(folder, f"{given}.tsv"))}
-    return ({fault["kind"] for fault in report["faults"]}
-            | ({"target-without-address"} if lists.get("targets") else set())
-            | ({"unreached-row"} if "unreached\t" in lists.get("reached", "") else set())
-            | {WORDS[line.partition("\t")[0]] for given in LISTS[4:] for line in lists.get(given, "").splitlines() if line.partition("\t")[0] in WORDS})
+def faults_of_findings(folder: str) -> Iterator[str]:
+    """Findings have one form, each its own key, and the views make the same of them as of the report and the lists."""
+    status, text, error = view("findings", folder)
+    if status:
+        yield f"findings: status {status}: {error}"
+        return
+    findings = json.loads(text)["findings"]
+    for finding in findings:
+        if not MEMBERS <= set(finding) or finding["kind"] not in KINDS or (finding["file"], finding["line"]) != (finding["at"][0]["file"], finding["at"][0]["line"]):
+            yield f"findings: {finding}"
+        elif finding["level"] not in ("error", "warning", "note") or ("entry" in finding) != (finding["from"] == "check"):
+            yield f"findings: {finding}"
+    if len({finding["key"] for finding in findings}) != len(findings):
+        yield "findings: a key stands twice"
+    with tempfile.TemporaryDirectory() as made:
+        with open(os.path.join(made, "report.json"), "w", encoding="utf-8") as file:
+            file.write(text)
+        if view("all", made)[1] != view("all", folder)[1]:
+            yield "findings: the views make another text of them"
 
 
 def faults_of_all(folder: str) -> Iterator[str]:
@@ -279,9 +290,11 @@ def faults_of_all(folder: str) -> Iterator[str]:
     made = dict(json.loads(line) for line in text.removesuffix("\n").split("\n"))
     if list(made) != ALL:
         yield f"all: it makes {list(made)}"
+    if made.pop("new") != str(len([one for one in json.loads(made["findings"])["findings"] if not one.get("known")])):
+        yield "all: it counts wrong"
     for name in made:
         alone = view(name, folder)[1]
-        if made[name] != alone and (name != "sarif" or json.loads(made[name]) != json.loads(alone)):
+        if made[name] != alone and (name not in ("sarif", "findings") or json.loads(made[name]) != json.loads(alone)):
             yield f"all: it makes another {name}"
 
 
@@ -289,7 +302,9 @@ def ways_it_is_wrong(case: str) -> Iterator[str]:
     """A line for each way in which a view goes another way on a case than the case says."""
     folder = os.path.join(CASES, case)
     report = json.loads(contents(report_of(folder)))
-    report["kinds"] = kinds_of(report, folder)
+    findings = json.loads(view("findings", folder)[1] or '{"findings":[]}')["findings"]
+    report["kinds"] = {finding["kind"] for finding in findings if not finding.get("known")}
+    yield from faults_of_findings(folder)
     yield from faults_of_all(folder)
     outs = [file[:-4] for file in sorted(os.listdir(folder)) if file.endswith(".out")]
     if not outs:
@@ -305,13 +320,14 @@ def ways_it_is_wrong(case: str) -> Iterator[str]:
             yield f"{out}: status {status}: {error}"
         else:
             yield from (f"{out}: {line}" for line in differences(expected(name, contents(folder, out + ".out")), compared(name, text)))
+    new = {**report, "faults": [report["faults"][one["entry"] - 1] for one in findings if one["from"] == "check" and not one.get("known")]}
     for name, read_back in READ_BACK.items():
         status, text, error = view(name, folder)
         if status:
             yield f"{name}: status {status}: {error}"
             continue
         try:
-            yield from (f"{name}: {line}" for line in read_back(text, report))
+            yield from (f"{name}: {line}" for line in read_back(text, report if name == "dot" else new))
             if name == "html" and "html" in outs and shutil.which("chromium"):
                 yield from (f"html: {line}" for line in faults_of_loaded_page(text))
         except (ValueError, xml.etree.ElementTree.ParseError, subprocess.TimeoutExpired) as fault:
@@ -324,7 +340,7 @@ def refusals() -> Iterator[str]:
         for text in ('{"faults":1}', "[]"):
             with open(os.path.join(folder, "report.json"), "w", encoding="utf-8") as file:
                 file.write(text)
-            for name in ("text", "html", "dot", "sarif", "junit", "counts", "prom", "all"):
+            for name in ("findings", "text", "html", "dot", "sarif", "junit", "counts", "prom", "all"):
                 view.cache_clear()
                 status, out, error = view(name, folder)
                 if status == 0 or out or "this is no report of groot check" not in error:
@@ -340,8 +356,9 @@ def main(words: Sequence[str]) -> int:
         return 2
     cases = [case for case in sorted(os.listdir(CASES)) if not words or case in words]
     wrong = 0
-    for case, ways in [*((case, ways_it_is_wrong(case)) for case in cases), ("refusals", refusals())]:
-        lines = list(ways)
+    with concurrent.futures.ThreadPoolExecutor(os.cpu_count()) as pool:
+        found = list(pool.map(lambda case: list(ways_it_is_wrong(case)), cases))
+    for case, lines in [*zip(cases, found), ("refusals", list(refusals()))]:
         if lines:
             wrong += 1
             print(f"WRONG {case}")

@@ -1,5 +1,6 @@
 # What is wrong and what mends it, for a terminal: jq -rf views/text.jq report.json
-include "report" {search: "./"};
+include "found" {search: "./"};
+include "cause" {search: "./"};
 import "as_text" as text {search: "./"};
 
-causes($ARGS.named) as $causes | text::lines($causes)
+findings($ARGS.named) | causes as $causes | text::lines($causes)

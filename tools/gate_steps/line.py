@@ -6,25 +6,25 @@ from server_zones.names import NotAName, canonical
 from server_zones.version import version
 
 from .children import Ended
+from .tables import kinds
 from .terminal import put
 
-USAGE = """groot-gate [--old REPORT] [--old-targets LIST] [--old-delegations LIST] [--old-copies LIST] [--old-servers LIST]
-                  [--unasked SERVER] [--into FOLDER]
+USAGE = """groot-gate [--old FINDINGS] [--off KIND] [--unasked SERVER] [--into FOLDER]
                   [--classes N] [--rewrites K] [--workers N] [--without-map] META [OPTION OF groot-metadata ..]"""
-LISTS = ("targets", "delegations", "copies", "servers")
-VALUED = ("--old", *(f"--old-{word}" for word in LISTS), "--unasked", "--into", "--classes", "--rewrites", "--workers")
+VALUED = ("--old", "--off", "--unasked", "--into", "--classes", "--rewrites", "--workers")
+OLDER = ("--old-targets", "--old-delegations", "--old-copies", "--old-servers")
 FLAGS = ("--without-map", "--version", "--help", "-h")
 MOST = {"classes": 1_000_000, "rewrites": 64, "workers": 64}
 REFUSED = 2
 
 
 class Words(NamedTuple):
-    """What the command line asks for. `old_lists` has the lists of groot-map that are known, by their words. `limits` are options of groot check, `options` those of groot-metadata, among which `also`
-    has further names of servers, each with the first one."""
+    """What the command line asks for. `off` has the kinds of findings that are left out. `limits` are options of groot check, `options`
+    those of groot-metadata, among which `also` has further names of servers, each with the first one."""
 
     meta: str
     old: Optional[str]
-    old_lists: Dict[str, str]
+    off: List[str]
     unasked: List[str]
     into: str
     limits: List[str]
@@ -58,8 +58,10 @@ def words(line: Sequence[str]) -> Words:
     except NotAName as fault:
         raise Ended(REFUSED, f"{fault}: not a name, and --unasked and --also want one") from None
     limits = [word for name, most in MOST.items() for word in limit(name, getattr(found, name), most)]
-    old_lists = {word: getattr(found, f"old_{word}") for word in LISTS if getattr(found, f"old_{word}")}
-    return Words(found.meta, found.old, old_lists, unasked, found.into, limits, found.without_map, options, also)
+    unknown = sorted(set(found.off) - set(kinds()))
+    if unknown:
+        raise Ended(REFUSED, f"--off {unknown[0]}: no such kind; there are {', '.join(sorted(kinds()))}")
+    return Words(found.meta, found.old, list(dict.fromkeys(found.off)), unasked, found.into, limits, found.without_map, options, also)
 
 
 def sorted_out(line: Sequence[str]) -> Tuple[List[str], List[str]]:
@@ -69,6 +71,8 @@ def sorted_out(line: Sequence[str]) -> Tuple[List[str], List[str]]:
     meta_met, is_value = False, False
     for word in line:
         name, equals, _ = word.partition("=")
+        if name in OLDER:
+            raise Ended(REFUSED, f"{name}: --old alone does now, with findings.json of an earlier run")
         if is_value:
             own[-1] += f"={word}"
             is_value = False
@@ -104,11 +108,11 @@ def limit(name: str, text: Optional[str], most: int) -> List[str]:
 def parser_of() -> Parser:
     """The parser of the gate's own words."""
     parser = Parser(prog="groot-gate", usage=USAGE, allow_abbrev=False, add_help=False, description=(
-        "Checks a configuration in a pipeline: metadata, rows that no query reaches, targets without an address, the report, "
-        "what no query meets, and what is new in it. Options of groot-metadata behind META make META first."))
-    parser.add_argument("--old", metavar="REPORT", help="a report whose faults are known; without it, all faults are new")
-    for word in LISTS:
-        parser.add_argument(f"--old-{word}", metavar="LIST", help=f"a list of groot-map {word} whose lines are known")
+        "Checks a configuration in a pipeline: metadata, the report, what groot-map finds beside it, and what is new in all that. "
+        "Options of groot-metadata behind META make META first."))
+    parser.add_argument("--old", metavar="FINDINGS", help=(
+        "findings.json of an earlier run, or a report of groot check: what they have is known"))
+    parser.add_argument("--off", metavar="KIND", action="append", default=[], help="leave a kind of findings out, which is said")
     parser.add_argument("--unasked", metavar="SERVER", action="append", default=[], help=(
         "a server, as a hidden primary, whose rows no query needs to reach"))
     parser.add_argument("--into", metavar="FOLDER", default="groot-report", help="where the files go (groot-report)")

@@ -1,22 +1,18 @@
-"""The lists of groot-map in a pipeline: how they are run and read, and which lines are known."""
+"""The lists of groot-map in a pipeline: how they are run and read."""
 import contextlib
 import os
 import re
 import tempfile
-from typing import Dict, IO, Iterable, Iterator, List, NamedTuple, Sequence, Set, Tuple
+from typing import Dict, IO, Iterable, Iterator, List, NamedTuple, Sequence, Set
 
 from server_zones.line_map import escaped, unescaped
 
-from . import unmet
 from .children import Ended, how_it_ended, run
+from .tables import columns
 from .terminal import pass_on
 
 PROGRAM = "groot-map"
-WORDS = ("records", "reached", "targets", "delegations", "copies", "servers")
-COLUMNS = {"records": 7, "reached": 5, "targets": 10, "delegations": 7, "copies": 6, "servers": 6}
-FILES = {"records": 4, "reached": 4, "targets": 4, "delegations": 5, "servers": 4}  # the columns with names of files
-# the columns by which a line is known: of a target server, zone, owner, type and data, not the file and line, nor how the walks end
-KNOWN_BY: Dict[str, Tuple[int, ...]] = {"targets": (0, 1, 2, 3, 6), **unmet.KNOWN_BY}
+COLUMNS = columns()
 PLACE = re.compile(r"(.+):([0-9]+): (\S+)")
 LINES = ".lines"
 FAILED = 8
@@ -35,7 +31,7 @@ def missing_words() -> List[str]:
     """The words that this groot-map doesn't have: its usage line names those that it has."""
     _, lines = run([PROGRAM])
     known = " ".join(lines).split()
-    return [word for word in WORDS if word not in known]
+    return [word for word in COLUMNS if word not in known]
 
 
 def names_from(folder: str) -> Names:
@@ -45,47 +41,31 @@ def names_from(folder: str) -> Names:
 
 def rows_of(file: Iterable[bytes], word: str, names: Names) -> Iterator[List[bytes]]:
     """The columns of each line of a list, with the names of files from the working folder on."""
+    place = COLUMNS[word].index("file") if "file" in COLUMNS[word] else None
     for line in file:
-        columns = line.rstrip(b"\n").split(b"\t")
-        if len(columns) != COLUMNS[word]:
-            raise Ended(FAILED, f"{PROGRAM} {word}: a line has {len(columns)} columns, not {COLUMNS[word]}; install groot and groot-map of one version")
-        if word in FILES:
-            names.flat.add(columns[FILES[word]])
-            columns[FILES[word]] = columns[FILES[word]].removeprefix(names.top)
-        yield columns
+        row = line.rstrip(b"\n").split(b"\t")
+        if len(row) != len(COLUMNS[word]):
+            raise Ended(FAILED, f"{PROGRAM} {word}: a line has {len(row)} columns, not {len(COLUMNS[word])}; install groot and groot-map of one version")
+        if place is not None:
+            names.flat.add(row[place])
+            row[place] = row[place].removeprefix(names.top)
+        yield row
 
 
 def write_rows(rows: Iterable[List[bytes]], out: IO[bytes]) -> None:
     """Writes the lines of a list."""
-    for columns in rows:
-        out.write(b"\t".join(columns) + b"\n")
+    for line in rows:
+        out.write(b"\t".join(line) + b"\n")
 
 
-def mark_unasked(rows: Iterable[List[bytes]], unasked: List[str], also: Dict[str, str]) -> Tuple[List[List[bytes]], int]:
-    """The rows of a list of rows, where those that no query needs to reach are said to be `unasked`, and how many are unreached.
-    No query needs to reach those of the servers `unasked`, nor a row that is reached by another name of its server: `also` has
-    further names, each with the first one."""
+def mark_unasked(rows: Iterable[List[bytes]], unasked: List[str], also: Dict[str, str]) -> List[List[bytes]]:
+    """The rows of a list of rows, where those that no query needs to reach are said to be `unasked`: those of the servers
+    `unasked`, and a row that is reached by another name of its server, where `also` has further names, each with the first one."""
     listed, servers = list(rows), {name.encode() for name in unasked}
     names = {other.encode(): first.encode() for other, first in also.items()}
     reached = {(names.get(row[2], row[2]), row[3]) for row in listed if row[0] == b"reached"}
-    marked = [[b"unasked", *row[1:]] if row[0] == b"unreached" and (row[2] in servers or (names.get(row[2], row[2]), row[3]) in reached)
-              else row for row in listed]
-    return marked, sum(row[0] == b"unreached" for row in marked)
-
-
-def new_lines(word: str, rows: Iterable[List[bytes]], known: str) -> List[List[bytes]]:
-    """The lines of a list that an older list doesn't have."""
-    with open(known, "rb") as file:
-        older = [line.rstrip(b"\n").split(b"\t") for line in file]
-    if any(len(row) != COLUMNS[word] for row in older):
-        raise Ended(FAILED, f"{known}: it is no list of groot-map {word}; give the {word}.tsv of an earlier run")
-    marks = {mark(word, row) for row in older}
-    return [row for row in rows if mark(word, row) not in marks]
-
-
-def mark(word: str, row: List[bytes]) -> Tuple[bytes, ...]:
-    """What tells the lines of two lists apart."""
-    return tuple(row[place] for place in KNOWN_BY[word])
+    return [[b"unasked", *row[1:]] if row[0] == b"unreached" and (row[2] in servers or (names.get(row[2], row[2]), row[3]) in reached)
+            else row for row in listed]
 
 
 def written_out(names: Names) -> Iterator[List[bytes]]:

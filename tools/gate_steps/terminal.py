@@ -6,24 +6,31 @@ from typing import Iterable
 from server_zones.names import shown
 
 
+def script() -> str:
+    """The name of the script without that of groot."""
+    return os.path.basename(sys.argv[0]).rpartition("groot-")[2]
+
+
 def say(text: str) -> None:
     """Writes a line on the standard error, as far as that takes it."""
-    program = os.path.basename(sys.argv[0])
-    line = f"{program.rpartition('groot-')[2]}: {shown(text)}\n"
+    line = f"{script()}: {shown(text)}\n"
     try:
         os.write(2, line.encode("utf-8"))
     except OSError:
         pass
 
 
+def shown_line(line: str) -> str:
+    """A line of another program. One that begins with a name, which may be a word to a runner as `::error::`, begins with a dash."""
+    text = shown(line)
+    return text if text.startswith("metadata: ") else f"- {text}"
+
+
 def pass_on(lines: Iterable[str]) -> None:
-    """Writes lines of another program on the standard error. One that begins with a name, which may be a word to a runner as
-    `::error::`, begins with a dash."""
+    """Writes lines of another program on the standard error."""
     for line in lines:
-        text = shown(line)
-        head = "" if text.startswith("metadata: ") else "- "
         try:
-            os.write(2, f"{head}{text}\n".encode("utf-8"))
+            os.write(2, f"{shown_line(line)}\n".encode("utf-8"))
         except OSError:
             return
 
