@@ -58,7 +58,6 @@ make_repository() {
     cp "$top/examples/own-servers/zones/example.com.zone" etc/bind/zones/
     cp etc/bind/named.conf ci/named.printed
     cp "$top/examples/own-servers/report.json" ci/known.json
-    : >ci/known.tsv
 }
 
 # install_programs PROGRAM: puts the programs of an install on the path: groot, and the scripts. groot-map has to be there.
@@ -72,5 +71,6 @@ install_programs() {
     ln -s "$top/tools/gate" "$scratch/bin/groot-gate"
     ln -s "$top/tools/metadata" "$scratch/bin/groot-metadata"
     ln -s "$top/tools/changed" "$scratch/bin/groot-changed"
+    ln -s "$top/tools/changes" "$scratch/bin/groot-changes"
     PATH=$scratch/bin:$PATH:/usr/sbin
 }

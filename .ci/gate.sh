@@ -17,67 +17,106 @@ cat >metadata.json <<END
 END
 gate=(groot-gate metadata.json)
 
-# 1. Targets without an address.
-expect 0 "no target" "${gate[@]}"
+# 1. Targets without an address, and what is known of them.
+expect 0 "nothing" "${gate[@]}"
+said "nothing found"
 echo '@       IN MX    10 gone' >>$zone
 expect 1 "a mail host without an address" "${gate[@]}"
 said "target-without-address: a record leads to a name that has no address"
 said "example.com. MX to gone.example.com., on ns1.example.com. ($zone:11)"
-said "no fault; 1 target without an address"
+said "1 finding from 1 cause"
+said "1 error: 1 target-without-address"
+said "metadata.json, 20"
 holds report.sarif '.runs[0].results | map(.ruleId) == ["target-without-address"]'
 holds report.sarif ".runs[0].results[0].locations[0].physicalLocation | .artifactLocation.uri == \"$zone\" and .region.startLine == 11"
-cp groot-report/targets.tsv ci/targets.tsv
-expect 0 "a target that is known" "${gate[@]}" --old-targets ci/targets.tsv
-said "targets without an address: 1, new: 0"
+holds findings.json ".findings | length == 1 and (.[0] | .kind == \"target-without-address\" and .level == \"error\" and .from == \"targets\"
+    and .place.target == \"gone.example.com.\" and .file == \"$zone\" and .line == 11 and .mend and .key)"
+cp groot-report/findings.json ci/one.json
+expect 0 "a target that is known" "${gate[@]}" --old ci/one.json
+said "nothing new; known: 1; gone: 0"
 sed -i '1i ; a line that moves the others' $zone
-expect 0 "a target that is known, on another line" "${gate[@]}" --old-targets ci/targets.tsv
+expect 0 "a target that is known, on another line" "${gate[@]}" --old ci/one.json
 echo '_sip._tcp IN SRV 1 2 5060 lost' >>$zone
-expect 1 "a new target beside one that is known" "${gate[@]}" --old-targets ci/targets.tsv
-said "targets without an address: 2, new: 1"
+expect 1 "a new target beside one that is known" "${gate[@]}" --old ci/one.json
+said "new: 1 finding from 1 cause; known: 1; gone: 0"
 said "_sip._tcp.example.com. SRV to lost.example.com."
 unsaid "MX to gone"
-expect 8 "a list of targets that is none" "${gate[@]}" --old-targets ci/known.json
-said "ci/known.json: it is no list of groot-map targets"
+holds findings.json '.known == 1 and (.findings | map(.known) == [true, null])'
 sed -i '/gone$/d; /lost$/d; /^;/d' $zone
+expect 0 "a target that is gone" "${gate[@]}" --old ci/one.json
+said "nothing new; known: 0; gone: 1"
+for word in targets delegations copies servers; do
+    expect 2 "an older option" "${gate[@]}" --old-$word ci/one.json
+    said "--old-$word: --old alone does now, with findings.json of an earlier run"
+done
 
-# 1a. What no query meets: delegations, copies and servers, each line once, and none that is known.
+# 1a. What no query meets: each mistake once, and none that is known.
 # shellcheck disable=SC2317  # it is called by its name
 unmet() {
     groot-gate --into "$scratch/unmet" "$top/examples/$1/metadata.json" "${@:2}"
 }
-has_lines() {
-    [ "$(wc -l <"$scratch/unmet/$1")" -eq "$2" ] || { fault "$1 has not $2 lines"; cat "$scratch/unmet/$1"; }
+# finds EXAMPLE KINDS: the gate finds these kinds in an example, in the order of findings, with a cause for each but for those that follow from another.
+finds() {
+    jq -e --arg kinds "$2" '[.findings[].kind] == ($kinds | split(" "))' "$scratch/unmet/findings.json" >/dev/null \
+        || { fault "$1 hasn't $2"; jq -c '[.findings[].kind]' "$scratch/unmet/findings.json"; }
+}
+# known_by_itself EXAMPLE WORD..: nothing is new beside the findings of the same run.
+known_by_itself() {
+    cp "$scratch/unmet/findings.json" ci/known_here.json
+    expect 0 "$1, known" unmet "$@" --old ci/known_here.json
 }
 expect 1 "a name server that vanished" unmet vanished-name-server
-said "no fault; 1 finding that no query shows"
-said "shop.example. NS ns9.example., on a.nic.example."
-said "delegations: lines that count: 1; mend them, or keep delegations.tsv"
-has_lines delegations.tsv 1
-has_lines new-servers.tsv 0
-jq -e '.runs[0].results | map(.ruleId) == ["dead-name-server"]' "$scratch/unmet/report.sarif" >/dev/null || fault "SARIF has no dead-name-server"
-cp "$scratch/unmet/delegations.tsv" ci/delegations.tsv
-expect 0 "a name server that vanished, known" unmet vanished-name-server --old-delegations ci/delegations.tsv
-said "delegations: lines that count: 1, new: 0"
-expect 8 "a list of delegations that is none" unmet vanished-name-server --old-delegations ci/known.json
-said "ci/known.json: it is no list of groot-map delegations"
-expect 1 "a copy with other records" unmet hidden-primary --unasked hidden.nic.example.
-said "example.: other records, with the same serial 2026112701, on a.nic.example."
-cp "$scratch/unmet/copies.tsv" ci/copies.tsv
-sed -i 's/2026112701/2026112601/g' ci/copies.tsv
-expect 0 "a copy with other records, known with another serial" unmet hidden-primary --unasked hidden.nic.example. --old-copies ci/copies.tsv
-expect 1 "a forgotten row" unmet forgotten-row
+finds vanished-name-server "target-without-address"
+said "shop.example. NS to ns9.example., on a.nic.example."
+known_by_itself vanished-name-server
+expect 1 "a delegation that its zone doesn't have" unmet parent-and-child --unasked b.nic.example.
+finds parent-and-child "delegation-differs copy-differs"
 said "shop.example. NS b.nic.example., on a.nic.example."
-cp "$scratch/unmet/servers.tsv" ci/servers.tsv
-expect 0 "a forgotten row, known" unmet forgotten-row --old-servers=ci/servers.tsv
-expect 2 "no list of servers" unmet forgotten-row --old-servers ci/nothing.tsv
+said "above a.nic.example. b.nic.example., in the zone itself b.nic.example."
+known_by_itself parent-and-child --unasked b.nic.example.
+expect 1 "a stale copy and its row that no query reaches" unmet parent-and-child
+said "3 findings from 2 causes"
+said "copy-differs, unreached-row: a server holds another copy of a zone than the first row of it"
+expect 1 "a copy with other records" unmet hidden-primary --unasked hidden.nic.example.
+finds hidden-primary "copy-differs"
+said "example.: other records, with the same serial 2026112701, on a.nic.example."
+sed -i 's/2026112701/2026112601/g' "$scratch/unmet/findings.json"
+known_by_itself hidden-primary --unasked hidden.nic.example.
+expect 1 "a forgotten row" unmet forgotten-row
+finds forgotten-row "forgotten-row"
+said "shop.example. NS b.nic.example., on a.nic.example."
+known_by_itself forgotten-row
 for example in lame-delegation missing-glue glue-differs delegation-differs answers-differ; do
-    expect 1 "$example: told once" unmet $example
-    unsaid "that no query shows"
+    expect 1 "$example: told once" unmet $example --unasked ns3.hoster.example.
+    jq -e '[.findings[].from] | unique == ["check"]' "$scratch/unmet/findings.json" >/dev/null || fault "$example is told twice"
 done
-has_lines copies.tsv 1
 expect 0 "lines that the report tells, and are known there" unmet lame-delegation --old "$top/examples/lame-delegation/report.json"
 expect 1 "a target and a dead name server, told once" unmet no-address
-unsaid "that no query shows"
+jq -e '[.findings[].kind] | unique == ["no-address", "target-without-address"]' "$scratch/unmet/findings.json" >/dev/null || fault "no-address is told twice"
+
+# 1b. Kinds that are left out.
+expect 0 "a kind that is left out" unmet forgotten-row --off forgotten-row
+said "left out by --off: forgotten-row (1)"
+grep -q "left out by --off: forgotten-row (1)" "$scratch/unmet/report.html" || fault "the page doesn't say what was left out"
+expect 1 "another kind that is left out" unmet parent-and-child --off=unreached-row --off copy-differs
+finds parent-and-child "delegation-differs"
+said "left out by --off: unreached-row (1), copy-differs (1)"
+cp "$scratch/unmet/findings.json" ci/known_here.json
+expect 0 "kinds that are left out, and not gone" unmet parent-and-child --off unreached-row --off copy-differs --off delegation-differs --old ci/known_here.json
+said "nothing new; known: 0; gone: 0"
+expect 2 "a kind that there isn't" unmet forgotten-row --off copies
+said "--off copies: no such kind; there are alias"
+
+# 1c. Above the limits of groot, groot-large checks.
+mkdir "$scratch/limited"
+printf '%s\n' '#!/bin/sh' 'echo "zones/x.zone:7: too-many-records" >&2' 'exit 3' >"$scratch/limited/groot"
+printf '%s\n' '#!/bin/sh' "exec $(command -v groot) \"\$@\"" >"$scratch/limited/groot-large"
+chmod +x "$scratch/limited/groot" "$scratch/limited/groot-large"
+expect 0 "above the limits of groot" env PATH="$scratch/limited:$PATH" "${gate[@]}"
+said "above the limits of groot (zones/x.zone:7: too-many-records), so groot-large checks it"
+sed -i 's/too-many-records/bad-address/' "$scratch/limited/groot"
+expect 3 "a refusal within the limits" env PATH="$scratch/limited:$PATH" "${gate[@]}"
+unsaid "groot-large"
 
 # 2. Without groot-map, or with an older one.
 mkdir "$scratch/without" "$scratch/older"
@@ -88,18 +127,19 @@ ln -s "$(python3 -c 'import sys; print(sys.executable)')" "$scratch/without/pyth
 expect 2 "no groot-map" env PATH="$scratch/without" groot-gate metadata.json
 said "groot-map isn't on the path"
 expect 0 "no groot-map, on purpose" env PATH="$scratch/without" groot-gate metadata.json --without-map
-said "without groot-map: rows that no query reaches and targets without an address aren't looked for"
+said "without groot-map: only faults that a query meets are looked for, and no fault has a line"
+holds findings.json '.findings == []'
 printf '#!/bin/sh\necho "usage: groot-map records META | reached META" >&2\nexit 2\n' >"$scratch/older/groot-map"
 chmod +x "$scratch/older/groot-map"
 expect 2 "an older groot-map" env PATH="$scratch/older:$PATH" groot-gate metadata.json
-said "this groot-map has no word targets"
+said "this groot-map has no word delegations"
 
 # 3. The words of the gate, in any order.
 expect 4 "a limit of names" "${gate[@]}" --classes 3
 said "classes: more than 3"
 expect 0 "all limits" "${gate[@]}" --classes=100 --rewrites 3 --workers 1
 holds report.json '.rewrites == 3'
-for refused in "--classes 0" "--rewrites 65" "--workers many" "--unasked a..b" "--classes" "--no-such"; do
+for refused in "--off blackholes" "--classes 0" "--rewrites 65" "--workers many" "--unasked a..b" "--classes" "--no-such"; do
     # shellcheck disable=SC2086  # it is two words
     expect 2 "refused: $refused" groot-gate $refused metadata.json
     [ "$(wc -l <"$scratch/said")" -eq 1 ] || { fault "refused: $refused: not one line"; cat "$scratch/said"; }
@@ -107,11 +147,14 @@ done
 sed -i 's/^shop .*/shop    IN CNAME wwww/' $zone
 expect 1 "an alias to no name" "${gate[@]}"
 cp groot-report/report.json ci/one.json
-expect 0 "the known report behind META" groot-gate metadata.json --old ci/one.json
-said "no new fault; 1 known"
+expect 0 "a known report behind META" groot-gate metadata.json --old ci/one.json
+said "nothing new; known: 1; gone: 0"
+cp groot-report/findings.json ci/one.json
+expect 0 "known findings behind META" groot-gate metadata.json --old ci/one.json
+said "nothing new; known: 1; gone: 0"
 sed -i 's/wwww/www/' $zone
 expect 0 "a fault that is gone" groot-gate --old ci/one.json metadata.json
-said "known and gone: 1"
+said "known: 0; gone: 1"
 cp ci/one.json ./-one.json
 expect 0 "names of files that begin with a dash" groot-gate metadata.json --old=-one.json --into=-into
 rm -r ./-one.json ./-into
@@ -119,11 +162,11 @@ mkdir -p far/below
 ln -s far/below link
 cp ci/one.json far/one.json
 expect 0 "paths that go up from where a link leads" groot-gate metadata.json --old link/../one.json --into link/../into
-said "known and gone: 1"
+said "known: 0; gone: 1"
 [ -f far/into/report.json ] || fault "the folder isn't where the link leads"
 rm -r far link
 expect 0 "help" groot-gate --help
-said "usage: groot-gate [--old REPORT]"
+said "usage: groot-gate [--old FINDINGS]"
 sed -i 's/ \]}/ ]}/; s/"example.com."}\]}/"example.com."},\n  {"FileName": "etc\/bind\/zones\/example.com.zone", "NameServer": "ns2.example.com.", "Origin": "example.com."}]}/' metadata.json
 expect 1 "a row that no query reaches" "${gate[@]}"
 for name in ns2.example.com NS2.Example.COM. 'n\1152\.x.example.com' '\110s2.example.com.'; do
@@ -201,6 +244,19 @@ echo "what is left" >"$scratch/input"
 expect 0 "no input for what the gate runs" bash -c 'PATH="$1:$PATH"; { groot-gate metadata.json && cat; } <"$2"' - "$scratch/slow" "$scratch/input"
 said "what is left"
 
+# 5a. A terminal shows what runs, how long and with how much memory; nothing else does.
+if command -v script >/dev/null; then
+    printf '%s\n' "#!/bin/sh" "sleep 0.5" "exec $(command -v groot) \"\$@\"" >"$scratch/slow/groot"
+    expect 0 "a terminal" env PATH="$scratch/slow:$PATH" script -qec "groot-gate metadata.json" /dev/null
+    tr '\r' '\n' <"$scratch/said" >"$scratch/shown"
+    grep -qE '^.\[Kgate: 0 s, [0-9]+ MiB: groot check' "$scratch/shown" || { fault "a terminal doesn't show what runs"; cat -v "$scratch/shown"; }
+    grep -qE '^.\[Knothing found' "$scratch/shown" || fault "a terminal keeps what ran"
+else
+    echo "gate: script isn't there (Debian: bsdutils), so what a terminal shows isn't tried"
+fi
+expect 0 "no terminal" env PATH="$scratch/slow:$PATH" "${gate[@]}"
+unsaid "MiB"
+
 # 6. What the log says of names.
 odd=$(printf 'zones \033[31m\342\200\256/x.zone')
 mkdir "${odd%/*}"
@@ -230,8 +286,8 @@ cp "$top/examples/own-servers/zones/example.com.zone" flat/x.zone
 echo '{"TopNameServers": ["ns1.example.com."], "ZoneFiles": [{"FileName": "flat/x.zone", "NameServer": "ns1.example.com.", "Origin": "example.com."}]}' >metadata.json
 expect 1 "three hundred causes" env PATH="$scratch/stub:$PATH" groot-gate metadata.json
 said "more lines: groot-report/report.txt"
-[ "$(wc -l <"$scratch/said")" -lt 400 ] || fault "the log has all lines"
-[ "$(wc -l <groot-report/report.txt)" -gt 7000 ] || fault "report.txt hasn't all lines"
+[ "$(wc -l <"$scratch/said")" -le 200 ] || fault "the log has more than 200 lines"
+[ "$(wc -l <groot-report/report.txt)" -gt 6000 ] || fault "report.txt hasn't all lines"
 said "report.sarif has 5000 of 5100 places"
 holds report.sarif '.runs[0].results | length == 5000'
 

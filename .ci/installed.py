@@ -18,7 +18,7 @@ from typing import Dict, List, Optional, Sequence, Union
 
 TOP = pathlib.Path(__file__).resolve().parent.parent
 BASH = "bash"
-PROGRAMS = ("groot", "groot-map", "groot-large", "groot-metadata", "groot-gate", "groot-changed")
+PROGRAMS = ("groot", "groot-map", "groot-large", "groot-metadata", "groot-gate", "groot-changed", "groot-changes")
 Word = Union[str, pathlib.Path]
 
 
@@ -132,7 +132,8 @@ def completed_in_zsh(prefix: pathlib.Path) -> List[str]:
     faults = []
     for service, line, wish in (("groot-map", "groot-map", "servers"), ("groot", "groot ask meta", "CAA"), ("groot", "groot check", "--classes"),
                                 ("groot-large", "groot-large scope", "metadata"), ("groot-gate", "groot-gate", "--published"),
-                                ("groot-metadata", "groot-metadata", "--catalog"), ("groot-changed", "groot-changed", "--since")):
+                                ("groot-metadata", "groot-metadata", "--catalog"), ("groot-changed", "groot-changed", "--since"),
+                                ("groot-changes", "groot-changes", "--below")):
         command: List[Word] = ["zsh", "-f", TOP / ".ci/completed.zsh", zsh_completion(prefix), service, *line.split()]
         if wish not in output(command):
             faults.append(f"zsh: after `{line}` nothing with {wish} is completed")

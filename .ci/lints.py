@@ -1,8 +1,8 @@
 #!/usr/bin/env python3
 """Lists what the house doesn't allow in the crates' code: lints.py [--stale]
 
-- `export`: a function, a constant or a method that a crate exports and no other crate calls, tests not counted. A law, in a
-  module `laws`, is there for its contract.
+- `export`: a function, a constant or a method that a crate exports and no other crate calls, tests not counted. The name of a
+  function counts only in a file that names its crate. A law, in a module `laws`, is there for its contract.
 - `door`: an item that is `pub` in a private module, or a method that is `pub` at a type, where the crate doesn't export it:
   `pub(crate)` says so.
 - `parameters`: a function of more than seven parameters, `self` counted.
@@ -104,14 +104,16 @@ def doors(crate):
 
 
 def exports(crate, others):
-    """The exported calls that no other crate names."""
-    text = "\n".join(file.code for other in others for file in other.files)
+    """The exported calls that no other crate names: a function only counts as named in a file that names its crate."""
+    files = [file.code for other in others for file in other.files]
+    text = "\n".join(files)
+    naming = "\n".join(code for code in files if re.search(rf"\b{crate.name}\b", code))
     for file in crate.modules():
         if file.path.name == "laws.rt":
             continue
         for at in ITEM.finditer(file.code):
             name = at.group(3)
-            if at.group(1) == "pub " and at.group(2) in ("fn", "const") and name in crate.exported and not re.search(rf"\b{name}\b", text):
+            if at.group(1) == "pub " and at.group(2) in ("fn", "const") and name in crate.exported and not re.search(rf"\b{name}\b", naming):
                 yield "export", crate.name, name, file, at.start()
         for at in METHOD.finditer(file.code):
             owner, name = file.type_at(at.start()), at.group(2)

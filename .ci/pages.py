@@ -14,7 +14,8 @@ MOST_WORDS = {
     "README.md": 1800,
     "docs/BELIEVE.md": 700,
     "docs/ARCHITECTURE.md": 2500,
-    "docs/PROMISES.md": 5300,
+    "docs/PROGRAMS.md": 1300,
+    "docs/PROMISES.md": 4250,
     "CONTRIBUTING.md": 2000,
     "CHANGELOG.md": 600,
 }

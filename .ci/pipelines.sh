@@ -1,5 +1,6 @@
 #!/usr/bin/env bash
-# Tries tools/gate, the pipelines, hooks, service and image that call it, and tools/changed, on repositories made of examples/own-servers:
+# Tries tools/gate, the pipelines, hooks, service and image that call it, tools/changed and tools/changes, on repositories made of
+# examples/own-servers:
 # pipelines.sh PROGRAM
 #
 # PROGRAM is the built groot; groot-map is on the path. The lines of the pipelines run as they stand, with
@@ -41,28 +42,29 @@ name_server
 steps=(groot-gate --old ci/known.json metadata.json "${server[@]}")
 zone=etc/bind/zones/example.com.zone
 expect 0 "no fault" "${steps[@]}"
-said "no fault (7 names, 14 classes, at most 12 rewrites)"
+said "nothing new; known: 0; gone: 0"
+said "(7 names, 14 classes, at most 12 rewrites)"
 holds report.sarif '.runs[0].results == []'
 
 sed -i 's/^shop .*/shop    IN CNAME wwww/' $zone
 expect 1 "an alias to no name" "${steps[@]}"
 said "shop.example.com. to wwww.example.com."
-said "faults: 1, new: 1"
+said "new: 1 finding from 1 cause; known: 0; gone: 0"
 holds report.sarif '.runs[0].results | length == 1 and .[0].ruleId == "blackhole"'
 
-cp groot-report/report.json ci/known.json
+cp groot-report/findings.json ci/known.json
 expect 0 "a fault that is known" "${steps[@]}"
-said "faults: 1, new: 0"
+said "nothing new; known: 1; gone: 0"
 
 echo 'old     IN CNAME gone' >>$zone
 expect 1 "a new fault beside one that is known" "${steps[@]}"
 said "old.example.com. to gone.example.com."
-holds new.json '.faults | length == 1'
+holds findings.json '.findings | map(.known) | sort == [null, true]'
 holds report.json '.faults | length == 2'
-cp groot-report/report.json ci/both.json
+cp groot-report/findings.json ci/both.json
 holds report.sarif ".runs[0].results[0].locations[0].physicalLocation | .artifactLocation.uri == \"$zone\" and .region.startLine == 11"
 
-expect 2 "a known report over which the run writes" groot-gate --old groot-report/report.json metadata.json
+expect 2 "known findings over which the run writes" groot-gate --old groot-report/findings.json metadata.json
 expect 2 "no known report" groot-gate --old ci/nothing.json metadata.json
 echo '{}' >ci/empty.json
 expect 8 "a known report that is none" groot-gate --old ci/empty.json metadata.json
@@ -76,7 +78,7 @@ expect 0 "another name of a server" "${steps[@]}" --also ns1.example.com.=ns1.ex
 twin=("${steps[@]}" --zone ns1.exmaple.com.=example.com.:"$zone" --top ns1.example.com.)
 expect 1 "a row that no query reaches" "${twin[@]}"
 said "ns1.exmaple.com.: example.com.: no query reaches this row"
-said "rows that no query reaches: 1"
+said "unreached-row: no query reaches a row of the metadata"
 expect 1 "the same with metadata that stand" groot-gate --old ci/known.json metadata.json
 said "row 2, zone example.com., on ns1.exmaple.com. (etc/bind/zones/example.com.zone:1)"
 expect 0 "a row that no query needs to reach" groot-gate --unasked ns1.exmaple.com "${twin[@]:1}"
@@ -94,7 +96,7 @@ make_repository above
 name_server
 printf '%s\n' 'office  IN CNAME autodiscover.outlook.com.' 'old     IN DNAME elsewhere.example.' >>$zone
 expect 0 "aliases that leave the zones" groot-gate metadata.json "${server[@]}" --above above
-said "no fault"
+said "nothing found"
 holds report.json '.names == 19'
 echo '@       IN NS    ns2' >>$zone
 expect 1 "a name server without an address" groot-gate metadata.json "${server[@]}" --above above
@@ -172,7 +174,7 @@ for pipeline in github gitlab jenkins by_link; do
     cp "$top/examples/own-servers/zones/example.com.zone" etc/bind/zones/
     rm -f "$scratch/runner/said"
     expect 0 "$pipeline: no fault" "${run[@]}"
-    said "no fault"
+    said "nothing new"
     [ "$pipeline" = jenkins ] || grep -q "dpkg --install .*groot.deb\|/etc/bind" "$scratch/runner/said" || fault "$pipeline prepares nothing"
     sed -i 's/^shop .*/shop    IN CNAME wwww/' $zone
     expect 1 "$pipeline: a new fault" "${run[@]}"
@@ -229,7 +231,7 @@ hook=(python3 "$scratch/framework.py" "$top/.pre-commit-hooks.yaml")
 more=(--old ci/known.json metadata.json --server ns1.example.com.=bind-printed:ci/named.printed --root ns1.example.com.=.)
 if python3 -c 'import yaml' 2>/dev/null; then
     expect 0 "pre-commit: no fault" "${hook[@]}" "${more[@]}"
-    said "no fault"
+    said "nothing new"
     expect 0 "pre-commit: no other words" "${hook[@]}"
     sed -i 's/^shop .*/shop    IN CNAME wwww/' $zone
     expect 1 "pre-commit: a new fault" "${hook[@]}" "${more[@]}"
@@ -253,7 +255,7 @@ line_of() {
 }
 read -ra start <<<"$(line_of ExecStart)"
 read -ra stop <<<"$(line_of ExecStopPost)"
-cp ci/known.json ci/known.tsv .
+cp ci/known.json .
 if ! command -v named-checkconf >/dev/null; then
     start=("${start[@]/=bind:*/=bind-printed:ci/named.printed}" --root ns1.example.com.=.)
 else
@@ -288,7 +290,7 @@ metrics_have 'groot_status 3'
 ! grep -q groot_faults "$scratch/groot.prom" || fault "metrics of an older report"
 expect 0 "service: metrics of a run that was killed" env EXIT_STATUS=KILL "${stop[@]}"
 metrics_have 'groot_status -1'
-echo '{}' >groot-report/report.json
+echo '{}' >groot-report/findings.json
 expect 5 "service: no report, though the status says so" env EXIT_STATUS=1 "${stop[@]}"
 metrics_have 'groot_status -1'
 [ "$(find "$scratch" -maxdepth 1 -name 'groot.prom*')" = "$scratch/groot.prom" ] || fault "a part of the metrics is left"
@@ -384,5 +386,37 @@ expect 2 "changed: no word" groot-changed
 echo 'broken' >>"$odd"
 expect 3 "changed: a refused file" groot-changed metadata.json
 
-[ $wrong -ne 0 ] || echo "pipelines: the gate, the lines of all pipelines, the hooks, the service, the image and groot-changed end as they should"
+# 8. What queries notice of a change: a name that goes below a wildcard, by itself, and as one of several.
+make_repository changes
+differ=("$top/examples/differ/before/metadata.json" "$top/examples/differ/after/metadata.json")
+all_types="A NS CNAME SOA PTR HINFO MX TXT AAAA SRV DNAME CAA"
+expect 1 "changes: a record less" groot-changes "${differ[@]}"
+printf '%s\t%s\t%s\n' exact shop.example. A below shop.example. "$all_types" exact mail.shop.example. A below mail.shop.example. "$all_types" \
+    | cmp -s - "$scratch/said" || { fault "groot-changes: other names or types"; cat "$scratch/said"; }
+expect 1 "changes: below a name, without SOA" groot-changes --without-soa --below MAIL.shop.example "${differ[@]}"
+printf '%s\t%s\t%s\n' exact mail.shop.example. A below mail.shop.example. "${all_types/SOA /}" \
+    | cmp -s - "$scratch/said" || { fault "groot-changes: other names or types below a name"; cat "$scratch/said"; }
+expect 0 "changes: none below a name" groot-changes --below www.example. "${differ[@]}"
+expect 0 "changes: none" groot-changes "$top/examples/same/before/metadata.json" "$top/examples/same/after/metadata.json"
+[ ! -s "$scratch/said" ] || { fault "groot-changes: no change is told"; cat "$scratch/said"; }
+echo "{\"TopNameServers\": [\"ns1.example.com.\"], \"ZoneFiles\": [{\"FileName\": \"$zone\", \"NameServer\": \"ns1.example.com.\", \"Origin\": \"example.com.\"}]}" >one.json
+mkdir -p other/etc/bind/zones
+printf '%s\n' '-x A 192.0.2.1' 'y\.z A 192.0.2.2' >>$zone
+sed 's/192.0.2.2$/192.0.2.3/; s/^-x .*/-x A 192.0.2.9/' $zone >other/$zone
+awk '!done && match($0, /[0-9][0-9][0-9][0-9][0-9][0-9][0-9][0-9][0-9][0-9]/) { sub(/[0-9]+/, "2030010101", $0); done = 1 } { print }' other/$zone >other/raised
+mv other/raised other/$zone
+cp one.json other/
+expect 1 "changes: odd names behind a raised serial" groot-changes --without-soa one.json other/one.json
+printf 'exact\t%s\tA\n' -x.example.com. 'y\.z.example.com.' | cmp -s - "$scratch/said" || { fault "groot-changes: odd names"; cat "$scratch/said"; }
+expect 1 "changes: a raised serial" groot-changes --below example.com. one.json other/one.json
+said "exact	example.com.	SOA"
+expect 6 "changes: a full output" bash -c 'groot-changes one.json other/one.json >/dev/full'
+expect 6 "changes: a closed output" bash -c 'groot-changes one.json other/one.json >&-'
+expect 2 "changes: one word" groot-changes one.json
+expect 2 "changes: no name" groot-changes --below a..b one.json other/one.json
+echo 'broken' >>other/$zone
+expect 3 "changes: a refused file" groot-changes one.json other/one.json
+said "other/$zone"
+
+[ $wrong -ne 0 ] || echo "pipelines: the gate, the lines of all pipelines, the hooks, the service, the image, groot-changed and groot-changes end as they should"
 exit $wrong

@@ -38,7 +38,9 @@ NAMED = re.compile(r"(\.\s*)?\b((?:\w+::(?:<[\w, ]*>::)?)*)(\w+)(?:::<[^()]*>)?\
 CALLED = re.compile(r"(?:\b([A-Z]\w*)::(?:<[^()]*>::)?)?(\w*)(?:::<[^()]*>)?$")
 NO_TYPE = {"Option", "Result", "Some", "None", "Ok", "Err", "Self", "Box"}
 # `scope` has the report from the judge that a ScopeJudge wraps; the programs say how much they take.
-HANDED_ON = {("ScopeJudge", "report"): ("Judge", "report"), (None, "read_metadata"): (None, "read_metadata_within"),
+# `check` and `scope` keep the texts of a report's entries in place of them: `kept_report` with texts for entries.
+HANDED_ON = {("ScopeJudge", "report"): ("Judge", "kept_report"), ("Judge", "report"): ("Judge", "kept_report"),
+             ("NameJudge", "report"): ("NameJudge", "kept_report"), (None, "read_metadata"): (None, "read_metadata_within"),
              (None, "read_words"): (None, "read_words_of")}
 
 

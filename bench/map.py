@@ -5,12 +5,13 @@ GROOT and GROOT-MAP are the built programs, crates/groot/out/groot and crates/gr
 makes
 - a registry of 30,000 delegations to name servers below them, each with a mail exchange that is one of them,
 - 5,000 hosted zones of 10 records on three servers, a tenth of them on a second one too, and the zone above them,
+- 5,000 zones of 10 records, each on both of two servers that are asked first,
 - one small zone on 4,000 top servers.
 
-For each it prints a line of a table: the processor seconds and the peak memory in MiB of `check` with one worker, and of
-each word of groot-map its processor seconds, their ratio to those of `check`, and its peak memory. Each is the best of
---runs runs, 5 if none are given. With --tenth all inputs are a tenth as large; with --only those alone whose title has the
-word. At most the time of `check` is wanted of each word for the registry and the hosted zones.
+For each it prints the lines of a table: the processor seconds and the peak memory in MiB of `check` with one worker, and
+those of each word of groot-map with their ratios to those of `check`. Each is the best of --runs runs, 5 if none are given.
+With --tenth all inputs are a tenth as large; with --only those alone whose title has the word. At most the time and the memory
+of `check` are wanted of each word for all inputs but the last.
 """
 import argparse
 import os
@@ -20,7 +21,7 @@ import make_zone
 from measure import GROOT, RUNS, TOP, measured, metadata, program, ratio
 
 GROOT_MAP = os.path.join(TOP, "crates", "groot_map", "out", "groot_map")
-ASKED = [("records", (0,)), ("reached", (0, 1)), ("targets", (0, 1))]
+ASKED = ["records", "reached", "targets", "delegations", "copies", "servers", "aliases"]
 
 
 def registry(count, folder):
@@ -34,6 +35,11 @@ def hosted(count, folder):
     return make_zone.write_hosted(count, count // 10, 10, folder), ["ns1.example."]
 
 
+def on_two(count, folder):
+    """Writes so many zones on two servers each, with no zone above them. Both servers are asked first."""
+    return make_zone.write_without_above(2, count, 10, folder), ["ns0.host.", "ns1.host."]
+
+
 def on_many(count, folder):
     """Writes a zone on so many servers, each of which is asked first."""
     rows = make_zone.write_on_many(count, folder)
@@ -43,6 +49,7 @@ def on_many(count, folder):
 INPUTS = [
     ("registry of {:,} delegations", registry, 30_000),
     ("{:,} hosted zones of 10 records", hosted, 5_000),
+    ("{:,} zones on two servers", on_two, 5_000),
     ("a zone on {:,} top servers", on_many, 4_000),
 ]
 
@@ -57,11 +64,11 @@ def known(title, taken):
 def measure_one(groot, groot_map, title, meta, runs):
     """Measures `check` and each word, and prints what they take."""
     check = known(title, measured([groot, "check", meta, "--workers", "1", "--classes", "1000000"], (0, 1), runs))
-    cells = [f"{check.processor:.3f}", f"{check.memory:.0f}"]
-    for asked, statuses in ASKED:
-        own = known(title, measured([groot_map, asked, meta], statuses, runs))
-        cells += [f"{own.processor:.3f}", f"{ratio(own.processor, check.processor):.2f}", f"{own.memory:.0f}"]
-    print(f"| {title} | {' | '.join(cells)} |", flush=True)
+    print(f"| {title} | `check` | {check.processor:.3f} | | {check.memory:.0f} | |", flush=True)
+    for asked in ASKED:
+        own = known(title, measured([groot_map, asked, meta], (0, 1), runs))
+        cells = [f"{own.processor:.3f}", f"{ratio(own.processor, check.processor):.2f}", f"{own.memory:.0f}", f"{ratio(own.memory, check.memory):.2f}"]
+        print(f"| {title} | `{asked}` | {' | '.join(cells)} |", flush=True)
 
 
 def main():
@@ -73,8 +80,7 @@ def main():
     words.add_argument("--only", default="")
     said = words.parse_args()
     groot, groot_map = program(said.groot), program(said.groot_map)
-    columns = ["Input", "`check`", "MiB", *(cell for asked, _ in ASKED for cell in (f"`{asked}`", "ratio", "MiB"))]
-    print(f"| {' | '.join(columns)} |\n|{'---|' * len(columns)}")
+    print("| Input | Word | Seconds | ratio | MiB | ratio |\n|---|---|---|---|---|---|")
     for title, make, size in INPUTS:
         count = size // 10 if said.tenth else size
         if said.only in title:

@@ -3,7 +3,8 @@
 
 definitions.py [WORD ..]        prints all, or those in whose crate, file, name or sentence each word is found
 definitions.py --of CLAUSE      prints the page of those on which a clause of groot_with_sites rests
-definitions.py --count CLAUSE   prints how many these are
+definitions.py --count NAME     prints how many these are, of a clause or of a definition of specs/
+definitions.py --lemmas CALL    prints the tree of a function's proof: the lemmas that it cites, and the calls on which it rests
 definitions.py --renew          writes docs/DEFINITIONS.md, as --of headline prints it, and the numbers of docs/BELIEVE.md
 definitions.py --stale          status 1 if --renew would change a page
 
@@ -12,13 +13,16 @@ looked up as the imports of their file say. A variable that has the name of a de
 of the code are counted as the values that contracts see, and so are traits of which a clause names a ghost value. What the
 kit's libraries define isn't counted. `--of` says on standard error which definitions have no sentence.
 
-Crates stand in the order of crates.txt. The files of a crate stand so that each comes after those that it imports.
+The page runs from the clause down: the crates of crates.txt from the last to the first, and in a crate each file before those
+that it imports.
 """
 import collections
 import functools
 import os
 import re
 import sys
+
+import lemmas
 
 TOP = os.path.dirname(os.path.dirname(os.path.abspath(__file__)))
 TOP_CALL = ("groot_run", "run.rt", "groot_with_sites")
@@ -231,18 +235,28 @@ def clause_text(clause):
 
 @functools.cache
 def rests_on(clause):
-    """The definitions and types on which a clause rests, in the order in which to read them."""
+    """The definitions and types on which a clause rests, from the clause down."""
     crate, file, _ = TOP_CALL
     words, aliases = words_of(crate, f"src/{file}")
     text, traits = clause_text(clause)
-    left = [*meant(text, words, aliases), *(words[it] for it in traits)]
+    return below([*meant(text, words, aliases), *(words[it] for it in traits)])
+
+
+@functools.cache
+def definition_rests_on(name):
+    """The definitions and types on which each definition of this name rests, and itself."""
+    return below([it for crate in crates() for (_, own), it in specs_of(crate).items() if own == name])
+
+
+def below(left):
+    """These definitions, and those on which they rest, from above down."""
     found = set()
     while left:
         it = left.pop()
         if it and it not in found:
             found.add(it)
             left += cited(it)
-    return sorted(found, key=place_of)
+    return sorted(found, key=place_of, reverse=True)
 
 
 def place_of(it):
@@ -276,9 +290,9 @@ def number_of_lines(it):
     return len(it.text.splitlines())
 
 
-def count(clause):
-    """How many definitions, types, lines, files and crates a clause rests on."""
-    found = rests_on(clause)
+def count(name):
+    """How many definitions, types, lines, files and crates a clause or a definition rests on."""
+    found = definition_rests_on(name) or rests_on(name)
     own = [it for it in found if not it.kind]
     return (f"{len(own)} definitions and {len(found) - len(own)} types and traits, {sum(map(number_of_lines, found)):,} lines in "
             f"{len({(it.crate, it.file) for it in found})} files of {len({it.crate for it in found})} crates")
@@ -290,8 +304,8 @@ def page(clause):
     yield "# Definitions"
     yield ""
     yield (f"On what the clause `{clause}` of the top call ([run.rt](../crates/groot_run/src/run.rt)) rests: {count(clause)}. "
-           "This page is made by [definitions.py](definitions.py) from the sentences over the definitions, in the order in which "
-           f"to read them: `docs/definitions.py --of {clause}`. [BELIEVE.md](BELIEVE.md) says what the clause means.")
+           "This page is made by [definitions.py](definitions.py) from the sentences over the definitions, from the clause down to "
+           f"names and octets: `docs/definitions.py --of {clause}`. [BELIEVE.md](BELIEVE.md) says what the clause means.")
     yield ""
     yield ("Most definitions compute a truth value, a list, an option or a text. The others are relations; their names begin "
            "with a capital letter, mostly with `Is` or `Are`. Types of the code are seen as plain values: octets as numbers below "
@@ -358,6 +372,8 @@ def main(words):
         print("\n".join(page(words[1])))
     elif words[:1] == ["--count"] and len(words) == 2:
         print(count(words[1]))
+    elif words[:1] == ["--lemmas"] and len(words) == 2:
+        print("\n".join(lemmas.lines_of_tree(words[1])))
     elif words == ["--renew"]:
         renew()
     elif words == ["--stale"]:
