@@ -4,7 +4,7 @@ pub mod UndoLemmas
 pub mod PlainLemmas
 pub mod Running
 pub mod Reached
-pub mod Words
+pub mod Lines
 pub mod LastLemmas
 pub mod Settled
 pub mod StandsLemmas

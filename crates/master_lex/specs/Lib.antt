@@ -7,5 +7,6 @@ pub mod Taking
 pub mod Octets
 pub mod States
 pub mod Plain
+pub mod Lines
 pub mod Undo
 pub mod Lexer

@@ -29,6 +29,12 @@ abbrev pub is_feed : OctetKind → Bool
 is_feed LineFeed = true
 is_feed _ = false
 
+-- white space or a line feed, which end a token without quotes
+abbrev pub ends_word : OctetKind → Bool
+ends_word Blank = true
+ends_word LineFeed = true
+ends_word _ = false
+
 -- whether an octet of this kind stands for itself in a token, in quotes or outside
 abbrev pub stands : Bool → OctetKind → Bool
 stands false Plain = true

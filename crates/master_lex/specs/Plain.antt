@@ -1,7 +1,7 @@
 -- Plain octets that the code's loops pass over at once.
-use Rattle.std.specs.Prelude.{◌≡◌, ℕ, ◌-◌, ◌<◌, ◌≤◌, List, [], length, take, get_or, Bool, true, false}
+use Rattle.std.specs.Prelude.{◌≡◌, ℕ, ◌-◌, ◌≤◌, List, [], length, take, Bool}
 use Rattle.std.specs.List.{prefix_len}
-use Rattle.master_lex.specs.Octets.{kind, is_blank, stands}
+use Rattle.master_lex.specs.Octets.{kind, stands}
 use Rattle.master_lex.specs.States.{LexState, pushed, run}
 use Rattle.master_lex.specs.declared.scanner.TheConstants.{MOST}
 
@@ -15,14 +15,6 @@ pub record KeptPlain (old new : LexState) (octets : List ℕ) (quoted : Bool) (c
   pub plain : count ≤ prefix_len (λ octet. stands quoted (kind octet)) octets
   pub short : count ≤ MOST - length old.raw
   pub kept : new ≡ with_plain old (take count octets) quoted
-
--- so many octets in front are a whole token without quotes, within its limit, and white space stands behind them
-pub record IsWord (octets : List ℕ) (count : ℕ) : Type 0 where
-  pub some : 0 < count
-  pub plain : count ≤ prefix_len (λ octet. stands false (kind octet)) octets
-  pub short : count ≤ MOST
-  pub within : count < length octets
-  pub behind : is_blank (kind (get_or octets count 0)) ≡ true
 
 -- so many octets in front were passed over
 pub record PassedFirst (old new : LexState) (octets : List ℕ) (count : ℕ) : Type 0 where

@@ -2,7 +2,7 @@
 
 ghost use Rattle.std.specs.Prelude.{◌≡◌, ◌<◌, true, false};
 ghost use Rattle.dns_data.specs.Octet.{is_digit};
-ghost use Rattle.master_lex.specs.Octets.{kind, is_space, is_blank, is_feed, stands};
+ghost use Rattle.master_lex.specs.Octets.{kind, is_space, is_blank, is_feed, ends_word, stands};
 ghost use Rattle.master_lex.specs.Pieces.{is_code};
 
 /// What an octet of a master file means outside quotes and escapes (RFC 1035 section 5.1).
@@ -41,9 +41,11 @@ pub(crate) fn kind_of(octet: u8) -> OctetKind
 pub(crate) fn is_plain_in_word(octet: u8) -> bool
     ensures { result ≡ stands false (kind octet) }
 {
-    // Nearly all octets of a text are at `*` or above, so that two more tests do for them.
-    if octet >= b'*' {
-        octet != b';' && octet != b'\\'
+    // Nearly all octets of a text are letters, digits, dots and hyphens, for which two tests do.
+    if octet > b';' {
+        octet != b'\\'
+    } else if octet >= b'*' {
+        octet != b';'
     } else {
         !matches!(octet, b' ' | b'\t' | b'\r' | b'\n' | b'(' | b')' | b'"')
     }
@@ -63,6 +65,14 @@ pub(crate) fn is_blank_octet(octet: u8) -> bool
     ensures { result ≡ is_blank (kind octet) }
 {
     matches!(octet, b' ' | b'\t' | b'\r')
+}
+
+/// Whether the octet is white space outside quotes and escapes, or a line feed.
+#[tactic(auto, unfolding(crate::specs::Octets::kind))]
+pub(crate) fn ends_word(octet: u8) -> bool
+    ensures { result ≡ ends_word (kind octet) }
+{
+    matches!(octet, b' ' | b'\t' | b'\r' | b'\n')
 }
 
 /// Whether the octet is a line feed.

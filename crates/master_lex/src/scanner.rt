@@ -136,7 +136,7 @@ impl Scanner {
 
     /// Ends the entry under way, which is none without a token. After an error nothing has
     /// changed.
-    fn end_entry(&mut self, alloc: Global) -> Result<(), NoMemory>
+    pub(crate) fn end_entry(&mut self, alloc: Global) -> Result<(), NoMemory>
         requires { self.old.position.line < 2 ^ 32 - 1 }
         ensures ok { OnOk result (state_of self.new ≡ entry_ended (state_of self.old)) }
         ensures err { OnErr result (state_of self.new ≡ state_of self.old) }

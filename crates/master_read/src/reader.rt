@@ -28,7 +28,7 @@ use std::mem;
 const MOST_LEVELS: u32 = 8;
 
 /// How many octets of a piece are read at a time, so that few entries are held and those behind them have their room.
-const PART: usize = 512;
+const PART: usize = 2048;
 
 /// The records of a zone's files, from octets that come in pieces. The result is the same however the octets are cut.
 #[derive(Debug, Drop)]
