@@ -1,26 +1,28 @@
 -- The branches of a graph of a query show their faults, and each fault of a delegation is shown by one.
-use Rattle.std.proofs.Common.{◌≡◌, true, List, [], ◌∷◌, ◌++◌, refl, sym, ap, ◌∙◌, subst, inl, inr, Some, true≢false, arith}
+use Rattle.std.proofs.Common.{◌≡◌, ℕ, true, List, [], ◌∷◌, ◌++◌, refl, sym, ap, ◌∙◌, subst, inl, inr, Some, None, true≢false}
 use Rattle.std.specs.Prelude.{Contains, Option}
-use Rattle.std.specs.List.{AllByRecursion, flat_map}
+use Rattle.std.specs.List.{AllByRecursion}
+use Rattle.std.specs.Option.{option_map_or}
 use Rattle.std.proofs.lemmas.Bool.{not-true, not_from_false, false_from_ne_true}
 use Rattle.std.proofs.lemmas.List.Elements.{Contains-append_cases, Contains-append_left, Contains-append_right}
 use Rattle.dns_data.specs.Name.{Labels, is_prefix, is_among}
 use Rattle.dns_data.specs.declared.rr_type.RrType.{RrType}
-use Rattle.dns_data.proofs.Membership.{none_in_nil, has_first, first_or_later, flat_map_has, from_flat_map}
-use Rattle.graph_form.specs.Branches.{hop_of, plain, seen_by, typed_branches}
+use Rattle.dns_data.proofs.Membership.{none_in_nil}
+use Rattle.graph_form.specs.Branches.{hop_of, seen_by}
 use Rattle.graph_form.specs.EndFaults.{picked_fault}
-use Rattle.graph_form.specs.Graph.{PlainGraph}
+use Rattle.graph_form.specs.Graph.{HasBranch, PlainGraph}
 use Rattle.graph_form.specs.GraphOf.{IsExactIn, IsGraphOf, TellsStep}
 use Rattle.graph_form.specs.Trails.{WalksTake, ZonesShow}
 use Rattle.graph_form.specs.Verdict.{AreFirstTypes, AreShownOf, IsCovered}
 use Rattle.graph_form.specs.declared.node.Branch.{Branch}
 use Rattle.graph_form.specs.declared.node.Branch.TheVariants.{Go, End}
+use Rattle.graph_form.specs.declared.node.Node.{Node}
 use Rattle.graph_form.specs.declared.report.Seen.{Seen}
 use Rattle.graph_form.proofs.EndsShown.{end_picked, end_seen, end_shown}
 use Rattle.graph_form.proofs.NoCircle.{told_step}
 use Rattle.graph_form.proofs.ReachedHops.{HopAt, hop_of_walk, walk_with}
 use Rattle.graph_form.proofs.Taking.{IsSingle, alone, shown, taken, zones}
-use Rattle.graph_form.proofs.TypedBranches.{branch_there, typed_for}
+use Rattle.graph_form.proofs.TypedBranches.{each_seen, seen_there}
 use Rattle.graph_form.proofs.Verdicts.{all_shown_of}
 use Rattle.net_model.specs.Shown.{MayShow, Refers, Shows, with_lists}
 use Rattle.net_model.specs.Step.{Setting, next}
@@ -32,30 +34,35 @@ use Rattle.net_model.specs.declared.fault.Fault.{Fault}
 use Rattle.net_model.specs.declared.fault.Fault.TheVariants as faults
 use Rattle.net_model.specs.declared.place.Cut.{Cut}
 use Rattle.net_model.specs.declared.walk.Hop.{Hop}
-use Rattle.net_model.specs.declared.walk.Hop.TheVariants.{Refer}
+use Rattle.net_model.specs.declared.walk.Hop.TheVariants.{Refer, Rewrite}
 use Rattle.net_model.specs.declared.walk.Walk.{Walk}
 use Rattle.net_model.proofs.Naming.{from_listed, is_listed}
 use Rattle.net_model.proofs.WalkEnds.{item}
 use Rattle.delegation_checks.specs.Delegations.{IsGraphIn, is_of_delegations, is_shown}
-use Rattle.delegation_checks.specs.Referrals.{AreOfReferrals, branch_referrals, hop_referrals}
-use Rattle.delegation_checks.proofs.LookedInto.{grown}
-use Rattle.zone_lookup.specs.ReferralFaults.{cut_faults}
+use Rattle.delegation_checks.specs.Referrals.{GraphRefers, branch_faults}
+use Rattle.delegation_checks.proofs.ArmsRefer.{graph_refers}
+use Rattle.zone_lookup.specs.ReferralFaults.{cut_faults, hop_faults}
 use Rattle.zone_lookup.proofs.ZonesTell.{cyclic_told, differ_told, glue_told, other_addresses, told_addresses, told_cyclic, told_differ, told_glue}
 use Rattle.zone_lookup.proofs.InsideZones.{BranchInside, HopInside, next_inside}
 use Rattle.zone_lookup.proofs.ReferralParts.{each_part, from_cut, has_cyclic, has_differs, has_no_glue, has_other_glue, in_cut}
 
--- the referral by a hop is that of the hop
-by_hop : (rtype : RrType) (hop : Option Hop) (cut : Cut) (t : RrType) → Contains (hop_referrals rtype hop) (cut, t) → (hop ≡ Some (Refer cut)) × (rtype ≡ t)
-by_hop rtype (Some (Refer other)) cut t has =
-    elim (first_or_later (other, rtype) [] (cut, t) has) [
-      | inl same ↦ (ap (λ (m : Cut × RrType). Some (Refer m.0)) same, ap (λ (m : Cut × RrType). m.1) same)
-      | inr none ↦ absurd (none_in_nil (cut, t) none)
-    ]
-by_hop rtype hop cut t has = absurd (none_in_nil (cut, t) has)
+-- a fault of the zone cut of a hop is one of a referral
+by_hop : (config : Config) (deps : Deps) (hop : Option Hop) (fault : Fault) → Contains (option_map_or (hop_faults config deps) hop []) fault
+    → (cut : Cut) × (hop ≡ Some (Refer cut)) × Contains (cut_faults config deps cut) fault
+by_hop config deps None fault has = absurd (none_in_nil fault has)
+by_hop config deps (Some (Refer cut)) fault has = (cut, refl, has)
+by_hop config deps (Some (Rewrite place by_dname to)) fault has = absurd (none_in_nil fault has)
+
+-- an item of a longer list covers as well
+grown : (few more : List Seen) (one : Seen) → ((s : Seen) → Contains few s → Contains more s) → IsCovered few one → IsCovered more one
+grown few more one grows covered =
+    record { by = covered.by; has = grows covered.by covered.has; fault_is = covered.fault_is; not_later = covered.not_later }
 
 module _ (setting : Setting) (query : Labels) (deps : Deps) (graph : PlainGraph) (is : IsGraphOf setting query graph) (exact : IsExactIn setting query graph)
-    (cuts seen : List Seen) (are : AreOfReferrals setting.config deps (flat_map branch_referrals (typed_branches graph)) cuts)
-    (all : seen ≡ cuts ++ seen_by (picked_fault (is_shown deps)) graph) where
+    (seen : List Seen) (all : seen ≡ seen_by (λ state. branch_faults setting.config deps) graph ++ seen_by (picked_fault (is_shown deps)) graph) where
+  abbrev Cuts : List Seen
+  Cuts = seen_by (λ state. branch_faults setting.config deps) graph
+
   abbrev Ends : List Seen
   Ends = seen_by (picked_fault (is_shown deps)) graph
 
@@ -65,9 +72,9 @@ module _ (setting : Setting) (query : Labels) (deps : Deps) (graph : PlainGraph)
 
   -- ---- each that was collected is of these kinds, and shown
 
-  record IsRight (one : Seen) : Type 0 where
-    pub kind : is_of_delegations one.fault ≡ true
-    pub shows : Shown one.rtype one.fault
+  record IsRight (rtype : RrType) (fault : Fault) : Type 0 where
+    pub kind : is_of_delegations fault ≡ true
+    pub shows : Shown rtype fault
 
   -- a fault that is shown at a zone cut is shown by each walk that goes by the referral
   record OfCut (cut : Cut) (fault : Fault) : Type 0 where
@@ -85,25 +92,25 @@ module _ (setting : Setting) (query : Labels) (deps : Deps) (graph : PlainGraph)
       (λ e. record { kind = refl; may = λ rtype. tt; zones = cyclic_told setting deps cut e; take = λ walk refers. refers })
       fault (from_cut setting.config deps cut fault has)
 
-  right_cut : (one : Seen) → Contains cuts one → IsRight one
-  right_cut one has =
-      let of = are.from one has in
-      let from = from_flat_map branch_referrals (typed_branches graph) (of.cut, one.rtype) of.has in
-      let branch = from.0 in
-      let hop = by_hop branch.rtype (hop_of branch.branch) of.cut one.rtype from.2 in
-      let there = branch_there setting query graph is branch from.1 in
-      let on = walk_with graph branch.rtype setting query is exact there.at there.number there.node branch.branch (Refer of.cut) there.has hop.0 in
-      let fault = of_cut of.cut one.fault of.has_fault in
-      let shows : Shown branch.rtype one.fault =
-      record {
-        walks = on.walk ∷ [];
-        by = record {
-          may = fault.may branch.rtype;
-          are_walks = (on.is_walk, tt);
-          show = shown (with_lists setting deps.least deps.greatest) (on.walk ∷ []) one.fault (fault.take on.walk on.among) fault.zones;
-        };
-      } in
-      record { kind = fault.kind; shows = subst (λ rtype. Shown rtype one.fault) hop.1 shows }
+  right_cut : (one : Seen) → Contains Cuts one → IsRight one.rtype one.fault
+  right_cut = each_seen setting query graph is (λ state. branch_faults setting.config deps) IsRight by where
+    by : (rtype : RrType) (at number : ℕ) (node : Node) (branch : Branch) (fault : Fault) → HasBranch graph rtype at number node branch
+        → Contains (branch_faults setting.config deps branch) fault → IsRight rtype fault
+    by rtype at number node branch fault has among =
+        let (cut, hop, has_fault) = by_hop setting.config deps (hop_of branch) fault among in
+        let on = walk_with graph rtype setting query is exact at number node branch (Refer cut) has hop in
+        let of = of_cut cut fault has_fault in
+        record {
+          kind = of.kind;
+          shows = record {
+            walks = on.walk ∷ [];
+            by = record {
+              may = of.may rtype;
+              are_walks = (on.is_walk, tt);
+              show = shown (with_lists setting deps.least deps.greatest) (on.walk ∷ []) fault (of.take on.walk on.among) of.zones;
+            };
+          };
+        }
 
   end_kind : (fault : Fault) → is_shown deps fault ≡ true → is_of_delegations fault ≡ true
   end_kind (faults.Lame cut) e = refl
@@ -118,16 +125,16 @@ module _ (setting : Setting) (query : Labels) (deps : Deps) (graph : PlainGraph)
       (tt, λ among. true≢false (sym (is_listed deps.greatest cut.ns among) ∙ not-true (is_among deps.greatest cut.ns) e))
   holds rtype fault e = cc
 
-  right_end : (one : Seen) → Contains Ends one → IsRight one
+  right_end : (one : Seen) → Contains Ends one → IsRight one.rtype one.fault
   right_end one has =
       record {
         kind = end_kind one.fault (end_picked (is_shown deps) (with_lists setting deps.least deps.greatest) query graph is exact one has);
         shows = end_shown (is_shown deps) (with_lists setting deps.least deps.greatest) query graph is exact holds one has;
       }
 
-  right : (one : Seen) → Contains seen one → IsRight one
+  right : (one : Seen) → Contains seen one → IsRight one.rtype one.fault
   right one has =
-      elim (Contains-append_cases cuts Ends one (subst (λ (xs : List Seen). Contains xs one) all has)) [ inl early ↦ right_cut one early | inr late ↦ right_end one late ]
+      elim (Contains-append_cases Cuts Ends one (subst (λ (xs : List Seen). Contains xs one) all has)) [ inl early ↦ right_cut one early | inr late ↦ right_end one late ]
 
   -- ---- each that is shown was collected
 
@@ -148,14 +155,9 @@ module _ (setting : Setting) (query : Labels) (deps : Deps) (graph : PlainGraph)
 
   by_referral : (rtype : RrType) (cut : Cut) (fault : Fault) (at : HopAt graph rtype (Refer cut)) → Contains (cut_faults setting.config deps cut) fault → Covered rtype fault
   by_referral rtype cut fault at has =
-      let typed = typed_for setting query graph is rtype at.at at.number at.node at.branch at.has in
-      let one : Seen = record { fault = fault; rtype = typed.first } in
-      let referral : Contains (branch_referrals (plain at.node.state typed.first at.branch)) (cut, typed.first) =
-      subst (λ (h : Option Hop). Contains (hop_referrals typed.first h) (cut, typed.first)) (sym at.has_hop) (has_first (cut, typed.first) []) in
-      let by = are.covers cut typed.first fault
-      (flat_map_has branch_referrals (typed_branches graph) (plain at.node.state typed.first at.branch) (cut, typed.first) typed.has referral) has in
-      let grows = grown cuts seen one (λ s among. subst (λ (xs : List Seen). Contains xs s) (sym all) (Contains-append_left cuts Ends s among)) by in
-      record { by = grows.by; has = grows.has; fault_is = grows.fault_is; not_later = omega (arith, grows.not_later, typed.not_later) }
+      grown Cuts seen (record { fault = fault; rtype = rtype }) (λ s among. subst (λ (xs : List Seen). Contains xs s) (sym all) (Contains-append_left Cuts Ends s among))
+      (seen_there setting query graph is (λ state. branch_faults setting.config deps) rtype at.at at.number at.node at.branch fault at.has
+      (subst (λ (hop : Option Hop). Contains (option_map_or (hop_faults setting.config deps) hop []) fault) (sym at.has_hop) has))
 
   -- by a walk that goes by the referral
   of_referral : (rtype : RrType) (cut : Cut) (fault : Fault) → IsSingle fault → ((walk : Walk) → WalksTake (walk ∷ []) fault → Refers walk cut)
@@ -170,7 +172,7 @@ module _ (setting : Setting) (query : Labels) (deps : Deps) (graph : PlainGraph)
 
   of_end : (rtype : RrType) (fault : Fault) → IsCovered Ends (record { fault = fault; rtype = rtype }) → Covered rtype fault
   of_end rtype fault covered =
-      grown Ends seen (record { fault = fault; rtype = rtype }) (λ s among. subst (λ (xs : List Seen). Contains xs s) (sym all) (Contains-append_right cuts Ends s among)) covered
+      grown Ends seen (record { fault = fault; rtype = rtype }) (λ s among. subst (λ (xs : List Seen). Contains xs s) (sym all) (Contains-append_right Cuts Ends s among)) covered
 
   collected : (rtype : RrType) (fault : Fault) → is_of_delegations fault ≡ true → Shown rtype fault → Covered rtype fault
   collected rtype (faults.Lame cut) kind shows =
@@ -200,9 +202,11 @@ module _ (setting : Setting) (query : Labels) (deps : Deps) (graph : PlainGraph)
 
 -- in the configuration of the graph
 pub wholly : (config : Config) (deps : Deps) (graph : PlainGraph) (cuts seen shown : List Seen)
-    → AreOfReferrals config deps (flat_map branch_referrals (typed_branches graph)) cuts → seen ≡ cuts ++ seen_by (picked_fault (is_shown deps)) graph
+    → (GraphRefers config graph → cuts ≡ seen_by (λ state. branch_faults config deps) graph) → seen ≡ cuts ++ seen_by (picked_fault (is_shown deps)) graph
     → AreFirstTypes seen shown → (setting : Setting) (query : Labels) → IsGraphIn config setting query graph
     → AreShownOf (with_lists setting deps.least deps.greatest) query is_of_delegations shown
 wholly config deps graph cuts seen shown are all firsts setting query for =
-    all_shown setting query deps graph for.is_graph for.exact cuts seen
-    (subst (λ (c : Config). AreOfReferrals c deps (flat_map branch_referrals (typed_branches graph)) cuts) (sym for.config_is) are) all shown firsts
+    let of_graph : cuts ≡ seen_by (λ state. branch_faults setting.config deps) graph =
+    are (graph_refers config setting query graph for) ∙ ap (λ (c : Config). seen_by (λ state. branch_faults c deps) graph) (sym for.config_is) in
+    all_shown setting query deps graph for.is_graph for.exact seen
+    (all ∙ ap (λ (of_cuts : List Seen). of_cuts ++ seen_by (picked_fault (is_shown deps)) graph) of_graph) shown firsts

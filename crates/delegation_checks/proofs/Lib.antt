@@ -1,2 +1,3 @@
-pub mod LookedInto
-pub mod DelegationsShown
+mod ArmsRefer
+mod DelegationsShown
+mod ToldBranches

@@ -1,57 +1,96 @@
--- The referrals that a graph has, as they are collected, and the faults of their zone cuts, whatever comes behind: for the
--- contracts of the search alone.
-use Rattle.std.specs.Prelude.{◌≡◌, ◌≤◌, ℕ, List, [], ◌∷◌, Option, Some, Contains, slice_get, take}
-use Rattle.std.specs.Ordering.{nat_cmp, ordering_then}
-use Rattle.std.specs.declared.cmp.Ordering.{Ordering}
-use Rattle.dns_data.specs.RrType.{number_of}
+-- The faults of the zone cuts of referrals, whatever comes behind them, and how the branches of a state refer: for the contracts
+-- of inner calls alone.
+use Rattle.std.specs.Prelude.{◌≡◌, true, List, [], ◌∷◌, map, Option, Some, None, Contains, ◌⊎◌}
+use Rattle.std.specs.List.{AllByRecursion, AllZip}
+use Rattle.std.specs.Option.{option_map_or}
+use Rattle.dns_data.specs.Name.{Labels, is_prefix}
+use Rattle.dns_data.specs.TypeSet.{has_bit}
 use Rattle.dns_data.specs.declared.rr_type.RrType.{RrType}
-use Rattle.graph_form.specs.Branches.{PlainBranch, hop_of}
-use Rattle.graph_form.specs.Verdict.{IsCovered}
+use Rattle.graph_form.specs.Branches.{hop_of, with_type}
+use Rattle.graph_form.specs.Graph.{PlainGraph}
+use Rattle.graph_form.specs.declared.node.Arm.{Arm}
+use Rattle.graph_form.specs.declared.node.Branch.{Branch}
+use Rattle.graph_form.specs.declared.node.Node.{Node}
 use Rattle.graph_form.specs.declared.report.Seen.{Seen}
-use Rattle.net_model.specs.FaultOrder.{cut_cmp}
+use Rattle.net_model.specs.Nearest.{held_zone}
+use Rattle.net_model.specs.Zone.{exists_in}
 use Rattle.net_model.specs.declared.config.Config.{Config}
+use Rattle.net_model.specs.declared.config.Zone.{Zone}
 use Rattle.net_model.specs.declared.deps.Deps.{Deps}
 use Rattle.net_model.specs.declared.fault.Fault.{Fault}
 use Rattle.net_model.specs.declared.place.Cut.{Cut}
 use Rattle.net_model.specs.declared.walk.Hop.{Hop}
-use Rattle.net_model.specs.declared.walk.Hop.TheVariants.{Refer}
-use Rattle.delegation_checks.specs.declared.referrals.Met.{Met}
-use Rattle.zone_lookup.specs.ReferralFaults.{cut_faults}
+use Rattle.net_model.specs.declared.walk.Hop.TheVariants.{Refer, Rewrite}
+use Rattle.zone_lookup.specs.CutFlags.{faults_by}
+use Rattle.zone_lookup.specs.CutTable.{referrals_at}
+use Rattle.zone_lookup.specs.ReferralFaults.{hop_faults}
+use Rattle.zone_lookup.specs.declared.cut_flags.CutFlags.{CutFlags}
 
--- the referral by a hop, with a type
-abbrev pub hop_referrals : RrType → Option Hop → List (Cut × RrType)
-hop_referrals rtype (Some (Refer cut)) = (cut, rtype) ∷ []
-hop_referrals rtype hop = []
+-- the faults of the zone cut of a branch, if it is a referral
+abbrev pub branch_faults : Config → Deps → Branch → List Fault
+branch_faults config deps branch = option_map_or (hop_faults config deps) (hop_of branch) []
 
--- the referral on a branch of a graph, with the branch's type
-abbrev pub branch_referrals : PlainBranch → List (Cut × RrType)
-branch_referrals one = hop_referrals one.rtype (hop_of one.branch)
+-- the same, each with the type
+abbrev pub typed_faults : Config → Deps → RrType → Branch → List Seen
+typed_faults config deps rtype branch = with_type rtype (branch_faults config deps branch)
 
--- the referral that is met, and its type
-abbrev pub is_met : Met → Cut × RrType
-is_met met = (met.cut.now, met.rtype)
+-- ---- how branches refer
 
--- the order of referrals that are met: by the name server of the cut, then by the type
-abbrev pub met_cmp : Met → Met → Ordering
-met_cmp a b = ordering_then (cut_cmp a.cut.now b.cut.now) (nat_cmp (number_of a.rtype) (number_of b.rtype))
+-- the hop is no referral
+abbrev pub IsNoReferral : Option Hop → Type 0
+IsNoReferral (Some (Refer cut)) = ⊥
+IsNoReferral (Some (Rewrite place by_dname to)) = Unit {0}
+IsNoReferral None = Unit {0}
 
--- before the referral at the place stands one to the same name server of a cut, with no later type
-pub record IsAgain (met : List Met) (place : ℕ) : Type 0 where
-  pub now : Met
-  pub here : slice_get met place ≡ Some now
-  pub earlier : Met
-  pub has : Contains (take place met) earlier
-  pub same : earlier.cut.now ≡ now.cut.now
-  pub not_later : number_of earlier.rtype ≤ number_of now.rtype
+-- the hops are the referrals of a zone cut of a zone that a server holds, one to each of its name servers, in their order
+pub record AreOfCut (config : Config) (hops : List (Option Hop)) : Type 0 where
+  pub server : Labels
+  pub zone : Zone
+  pub cut : Labels
+  pub held : held_zone config server zone.origin ≡ Some zone
+  pub inside : is_prefix zone.origin cut ≡ true
+  pub there : exists_in zone cut ≡ true
+  pub are : hops ≡ map (λ to. Some (Refer to)) (referrals_at server zone cut)
 
--- a fault of the zone cut of one of these referrals, with its type
-pub record IsOfReferral (config : Config) (deps : Deps) (met : List (Cut × RrType)) (seen : Seen) : Type 0 where
-  pub cut : Cut
-  pub has : Contains met (cut, seen.rtype)
-  pub has_fault : Contains (cut_faults config deps cut) seen.fault
+-- the hops are the referrals of one zone cut, or none is a referral
+abbrev pub RefersByOne : Config → List (Option Hop) → Type 0
+RefersByOne config hops = AllByRecursion IsNoReferral hops ⊎ AreOfCut config hops
 
--- the faults of the zone cuts of these referrals, each covered
-pub record AreOfReferrals (config : Config) (deps : Deps) (met : List (Cut × RrType)) (seen : List Seen) : Type 0 where
-  pub from : (one : Seen) → Contains seen one → IsOfReferral config deps met one
-  pub covers : (cut : Cut) (rtype : RrType) (fault : Fault) → Contains met (cut, rtype) → Contains (cut_faults config deps cut) fault
-      → IsCovered seen (record { fault = fault; rtype = rtype })
+-- the branches of the arm refer so, if it has a type
+abbrev pub ArmRefers : Config → Arm → Type 0
+ArmRefers config arm = (rtype : RrType) → has_bit arm.types rtype ≡ true → RefersByOne config (map hop_of arm.branches)
+
+-- the branches of each arm of the node refer so
+abbrev pub NodeRefers : Config → Node → Type 0
+NodeRefers config node = (arm : Arm) → Contains node.arms arm → ArmRefers config arm
+
+-- the branches of each arm of the graph refer so, as they do where it is that of a query in the configuration
+abbrev pub GraphRefers : Config → PlainGraph → Type 0
+GraphRefers config graph = (node : Node) → Contains graph.nodes node → NodeRefers config node
+
+-- the zone cut of the first hop, if that is a referral
+abbrev pub first_cut : List (Option Hop) → Option Cut
+first_cut [] = None
+first_cut (None ∷ hops) = None
+first_cut (Some (Rewrite place by_dname to) ∷ hops) = None
+first_cut (Some (Refer cut) ∷ hops) = Some cut
+
+-- ---- what is told of branches
+
+-- the faults that flags tell of the hop's zone cut, if it is a referral
+abbrev pub hop_told : CutFlags → Hop → List Fault
+hop_told flags (Refer cut) = faults_by flags cut
+hop_told flags (Rewrite place by_dname to) = []
+
+-- the faults that flags tell of the branch
+abbrev pub faults_told : CutFlags → Branch → List Fault
+faults_told flags branch = option_map_or (hop_told flags) (hop_of branch) []
+
+-- the flags tell the faults of the branch
+abbrev pub IsTold : Config → Deps → Branch → CutFlags → Type 0
+IsTold config deps branch flags = faults_told flags branch ≡ branch_faults config deps branch
+
+-- what is told of branches is of each what its faults are; where nothing is told, they have none
+abbrev pub AreTold : Config → Deps → List Branch → Option (List CutFlags) → Type 0
+AreTold config deps branches (Some told) = AllZip (IsTold config deps) branches told
+AreTold config deps branches None = AllByRecursion (λ branch. branch_faults config deps branch ≡ []) branches

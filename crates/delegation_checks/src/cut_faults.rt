@@ -1,87 +1,131 @@
-//! The faults of the zone cuts of referrals, whatever comes behind them.
+//! The faults of the zone cuts of a graph's referrals, whatever comes behind them.
 
-ghost use Rattle.std.specs.Prelude.{◌≡◌, ◌++◌, ◌<◌, IfOk, OnOk, length, map, true};
-ghost use Rattle.delegation_checks.specs.Referrals.{AreOfReferrals, IsAgain, is_met, met_cmp};
-ghost use Rattle.graph_form.specs.Branches.{with_type};
-ghost use Rattle.zone_lookup.specs.ReferralFaults.{cut_faults};
+ghost use Rattle.std.specs.Prelude.{◌≡◌, ◌++◌, map, true, Some, IfOk, OnOk};
+ghost use Rattle.std.specs.List.{AllZip, flat_map};
+ghost use Rattle.std.specs.Option.{option_copied, option_map};
+ghost use Rattle.delegation_checks.specs.Referrals.{ArmRefers, AreTold, GraphRefers, IsTold, NodeRefers, RefersByOne, branch_faults, faults_told, first_cut, typed_faults};
+ghost use Rattle.graph_form.specs.Branches.{arm_branches, branch_seen, hop_of, node_branches, seen_by, with_type};
+ghost use Rattle.net_model.specs.Nearest.{held_zone};
+ghost use Rattle.net_model.specs.Zone.{exists_in};
+ghost use Rattle.net_model.specs.declared.config.Config.{Config};
+ghost use Rattle.net_model.specs.declared.config.Zone.{Zone};
+ghost use Rattle.net_model.specs.declared.deps.Deps.{Deps};
+ghost use Rattle.net_model.specs.declared.walk.State.{State};
+ghost use Rattle.zone_lookup.specs.CutFlags.{faults_by};
+ghost use Rattle.zone_lookup.specs.CutTable.{IsTableOf, IsToldOf, referrals_at};
 
-use crate::referrals::Met;
 use dns_data::{List, NoMemory, RrType};
-use graph_form::Seen;
-use net_model::{Cut, Fault};
+use graph_form::{Arm, Branch, Graph, Node, Seen};
+use net_model::{Cut, Fault, Hop};
 use std::alloc::Global;
-use std::cmp::Ordering;
-use zone_lookup::{Hosts, LearntSets, put_cut_faults};
+use zone_lookup::{CutFlags, CutTable, Hosts};
 
-/// The faults of the zone cuts of referrals. The zones are asked once for each name server of a cut.
+/// The faults of the zone cuts of a graph's referrals, branch by branch, as the table tells them. The table is asked once
+/// for the branches of a state, which refer by one zone cut.
 pub(crate) fn cut_faults_of(
     alloc: Global,
     hosts: &Hosts<'_>,
-    sets: &LearntSets,
-    met: Vec<Met<'_>>,
+    table: &CutTable<'_>,
+    graph: &Graph,
 ) -> Result<List<Seen>, NoMemory>
-    ensures { IfOk result (AreOfReferrals hosts.now sets.now (map is_met met.entry.items)) }
-{
-    let mut sorted = met;
-    sorted.sort_by(|a, b| compare(a, b))?;
-    faults_in_order(alloc, hosts, sets, sorted.as_slice())
-}
-
-/// The faults of the zone cuts of referrals. The zones are not asked again for one that stands behind its like.
-fn faults_in_order(
-    alloc: Global,
-    hosts: &Hosts<'_>,
-    sets: &LearntSets,
-    met: &[Met<'_>],
-) -> Result<List<Seen>, NoMemory>
-    ensures { IfOk result (AreOfReferrals hosts.now sets.now (map is_met met.now)) }
+    ensures { IfOk result (λ seen. (deps : Deps) → IsTableOf hosts.now deps table.now → GraphRefers hosts.now graph.now
+        → seen ≡ seen_by (λ state. branch_faults hosts.now deps) graph.now) }
 {
     let mut seen = List::new(alloc);
-    for place in 0..met.len() {
-        let now = &met[place];
-        if !comes_again(met, place) {
-            put_cut(alloc, hosts, sets, now.cut, now.rtype, &mut seen)?;
-        }
+    for number in 0..graph.nodes() {
+        put_node(alloc, hosts, table, graph.node(number), &mut seen)?;
     }
     Ok(seen)
 }
 
-/// How two referrals stand to each other: by server, zone, zone cut and name server, then by the number of the type.
-fn compare(a: &Met<'_>, b: &Met<'_>) -> Ordering
-    ensures { result ≡ met_cmp a.now b.now }
-{
-    match a.cut.compare(b.cut) {
-        Ordering::Equal => a.rtype.number().cmp(&b.rtype.number()),
-        other => other,
-    }
-}
-
-/// Whether the referral before the one at the place is to the same name server of a cut, with no later type.
-fn comes_again(met: &[Met<'_>], place: usize) -> bool
-    requires { place < length met.now }
-    ensures { result ≡ true → IsAgain met.now place }
-{
-    if place == 0 {
-        return false;
-    }
-    let earlier = &met[place - 1];
-    let now = &met[place];
-    earlier.cut.compare(now.cut) == Ordering::Equal && earlier.rtype.number() <= now.rtype.number()
-}
-
-/// Puts the faults of a referral, whatever comes behind it, behind those seen.
-fn put_cut(
+/// Puts the faults of the zone cuts of a node's referrals behind those seen.
+fn put_node(
     alloc: Global,
     hosts: &Hosts<'_>,
-    sets: &LearntSets,
-    cut: &Cut,
+    table: &CutTable<'_>,
+    node: &Node,
+    seen: &mut List<Seen>,
+) -> Result<(), NoMemory>
+    ensures { OnOk result ((deps : Deps) → IsTableOf hosts.now deps table.now → NodeRefers hosts.now node.now
+        → seen.new ≡ seen.old ++ flat_map (branch_seen (λ state. branch_faults hosts.now deps)) (node_branches node.now)) }
+{
+    for arm in node.arms.items() {
+        put_arm(alloc, hosts, table, arm, seen)?;
+    }
+    Ok(())
+}
+
+/// Puts the faults of the zone cut of an arm's referrals behind those seen, with the arm's first type, if it has one.
+fn put_arm(
+    alloc: Global,
+    hosts: &Hosts<'_>,
+    table: &CutTable<'_>,
+    arm: &Arm,
+    seen: &mut List<Seen>,
+) -> Result<(), NoMemory>
+    ensures { OnOk result ((deps : Deps) (state : State) → IsTableOf hosts.now deps table.now → ArmRefers hosts.now arm.now
+        → seen.new ≡ seen.old ++ flat_map (branch_seen (λ of. branch_faults hosts.now deps)) (arm_branches state arm.now)) }
+{
+    let Some(rtype) = arm.types.first() else {
+        return Ok(());
+    };
+    let branches = arm.branches.items();
+    match told_of(hosts, table, branches) {
+        Some(told) => put_told(alloc, branches, told, rtype, seen),
+        None => Ok(()),
+    }
+}
+
+/// Puts the faults that are told of branches, one beside the other, behind those seen, with the type.
+fn put_told(
+    alloc: Global,
+    branches: &[Branch],
+    told: &[CutFlags],
     rtype: RrType,
     seen: &mut List<Seen>,
 ) -> Result<(), NoMemory>
-    ensures { OnOk result (seen.new ≡ seen.old ++ with_type rtype (cut_faults hosts.now sets.now cut.now)) }
+    ensures { OnOk result ((config : Config) (deps : Deps) → AllZip (IsTold config deps) branches.now told.now
+        → seen.new ≡ seen.old ++ flat_map (typed_faults config deps rtype) branches.now) }
+{
+    for (place, branch) in branches.iter().enumerate() {
+        if let Some(flags) = told.get(place) {
+            put_branch(alloc, branch, flags, rtype, seen)?;
+        }
+    }
+    Ok(())
+}
+
+/// Puts the faults that flags tell of a branch, if it is a referral, behind those seen, with the type.
+fn put_branch(
+    alloc: Global,
+    branch: &Branch,
+    flags: &CutFlags,
+    rtype: RrType,
+    seen: &mut List<Seen>,
+) -> Result<(), NoMemory>
+    ensures { OnOk result (seen.new ≡ seen.old ++ with_type rtype (faults_told flags.now branch.now)) }
+{
+    if flags.is_quiet() {
+        return Ok(());
+    }
+    match branch.hop() {
+        Some(Hop::Refer(cut)) => put_cut(alloc, cut, flags, rtype, seen),
+        _ => Ok(()),
+    }
+}
+
+/// Puts the faults that flags tell of a zone cut behind those seen, with the type.
+fn put_cut(
+    alloc: Global,
+    cut: &Cut,
+    flags: &CutFlags,
+    rtype: RrType,
+    seen: &mut List<Seen>,
+) -> Result<(), NoMemory>
+    ensures { OnOk result (seen.new ≡ seen.old ++ with_type rtype (faults_by flags.now cut.now)) }
 {
     let mut faults = List::new(alloc);
-    put_cut_faults(alloc, hosts, sets, cut, &mut faults)?;
+    flags.put_faults(alloc, cut, &mut faults)?;
     put_faults(faults, rtype, seen)
 }
 
@@ -93,4 +137,43 @@ fn put_faults(faults: List<Fault>, rtype: RrType, seen: &mut List<Seen>) -> Resu
         seen.push(Seen { fault, rtype })?;
     }
     Ok(())
+}
+
+/// What the table tells of branches that refer by one zone cut, in their order; `None` where there is nothing to tell.
+fn told_of<'t>(
+    hosts: &Hosts<'_>,
+    table: &'t CutTable<'_>,
+    branches: &[Branch],
+) -> Option<&'t [CutFlags]>
+    ensures { (deps : Deps) → IsTableOf hosts.now deps table.now → RefersByOne hosts.now (map hop_of branches.now)
+        → AreTold hosts.now deps branches.now (option_map (λ told. told.now) result) }
+{
+    match first_cut(branches) {
+        Some(cut) => told_at(hosts, table, cut),
+        None => None,
+    }
+}
+
+/// What the table tells of the zone cut of a referral, one for each of its name servers, in their order; `None` where there
+/// is nothing to tell.
+fn told_at<'t>(hosts: &Hosts<'_>, table: &'t CutTable<'_>, cut: &Cut) -> Option<&'t [CutFlags]>
+    ensures { (deps : Deps) (zone : Zone) → IsTableOf hosts.now deps table.now → held_zone hosts.now cut.now.server cut.now.zone ≡ Some zone
+        → exists_in zone cut.now.cut ≡ true
+        → IsToldOf hosts.now deps (referrals_at cut.now.server zone cut.now.cut) (option_map (λ told. told.now) result) }
+{
+    let tree = hosts.held_zone(&cut.server, &cut.zone)?;
+    let node = tree.node_at(&cut.cut)?;
+    let near = hosts.near_of(&cut.server, &cut.zone);
+    table.told(near, &cut.server, tree, node)
+}
+
+/// The zone cut of the first branch, if that is a referral.
+fn first_cut(branches: &[Branch]) -> Option<&Cut>
+    ensures { option_copied result ≡ first_cut (map hop_of branches.now) }
+{
+    let first = branches.first()?;
+    match first.hop() {
+        Some(Hop::Refer(cut)) => Some(cut),
+        _ => None,
+    }
 }

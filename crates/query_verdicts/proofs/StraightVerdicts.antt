@@ -1,73 +1,92 @@
--- What the walks of a query end in that go straight, and its verdict: no faults.
-use Rattle.std.proofs.Common.{◌≡◌, ℕ, true, [], ◌++◌, Option, Some, None, Result, Ok, Err, arith}
+-- What the walks of a query end in that go straight, and its verdict: the faults that the ends tell.
+use Rattle.std.proofs.Common.{◌≡◌, ◌==◌, ℕ, true, List, [], ◌∷◌, ◌++◌, length, Option, Some, None, Result, Ok, Err, refl, ap, subst, arith, eqb-true}
 use Rattle.std.specs.Prelude.{◌↔◌, IfOk, IfSome}
 use Rattle.dns_data.specs.Name.{Labels}
 use Rattle.dns_data.specs.declared.rr_type.RrType.{RrType}
-use Rattle.graph_form.specs.Verdict.{AreShownOf}
+use Rattle.dns_data.proofs.Membership.{none_in_nil}
+use Rattle.graph_form.specs.Verdict.{AreFirstTypes}
 use Rattle.net_model.specs.declared.deps.Deps.{Deps}
 use Rattle.net_model.specs.declared.config.Config.{Config}
 use Rattle.net_model.specs.declared.fault.Fault.{Fault}
-use Rattle.net_model.specs.Shown.{FaultSetting, Shows, with_lists}
+use Rattle.net_model.specs.Shown.{with_lists, with_sets}
 use Rattle.net_model.specs.Step.{following}
 use Rattle.net_model.specs.Tails.{IsUnnamedTail}
 use Rattle.net_model.specs.Tree.{HasMoreThan, IsReached}
 use Rattle.net_model.specs.Walk.{IsBoundedWith}
 use Rattle.net_model.specs.declared.walk.Leaf.{Leaf}
 use Rattle.straight_walks.specs.Ends.{IsOutcomeOf}
-use Rattle.straight_walks.specs.Straight.{NoOriginBetween}
+use Rattle.straight_walks.specs.Faulty.{ShowsThese, faults_at}
+use Rattle.straight_walks.specs.Straight.{NoOriginBetween, told_of}
 use Rattle.straight_walks.specs.declared.ends.StraightEnds.{StraightEnds}
+use Rattle.straight_walks.specs.declared.faulty.Faulty.{Faulty}
+use Rattle.straight_walks.proofs.ShowsThese.{first_shown}
 use Rattle.walk_laws.specs.Outcome.{HasOutcome}
 use Rattle.walk_laws.proofs.GivenSets.{lists_show}
-use Rattle.query_verdicts.specs.Queries.{AreSets, AreStraightEnds}
+use Rattle.query_verdicts.specs.Queries.{AreSets, AreStraightEnds, IsToldFor}
 use Rattle.query_verdicts.specs.Verdict.{IsClassVerdict}
 use Rattle.query_verdicts.specs.declared.verdict.ClassVerdict.TheVariants.{Faults}
 use Rattle.query_verdicts.proofs.ClassesJudged.{all_sought}
 
--- a query that shows no fault has none in its list
-none_shown : (setting : FaultSetting) (query : Labels) → ((rtype : RrType) (fault : Fault) → Shows setting query rtype fault → ⊥)
-    → AreShownOf setting query (λ fault. true) []
-none_shown setting query silent =
+-- ---- where no fault is told
+
+-- no fault is the first of none
+none_first : AreFirstTypes [] []
+none_first =
     record {
       ordered = λ i j d less within. absurd (omega arith);
-      kinds = tt;
-      each_shown = tt;
-      first_type = tt;
-      all_shown = λ fault rtype kind shows. absurd (silent rtype fault shows);
+      from = λ seen has. has;
+      covers = λ seen has. absurd (none_in_nil seen has);
     }
+
+none_there : (faulty : List Faulty) → (length faulty == 0) ≡ true → faulty ≡ []
+none_there [] e = refl
+none_there (one ∷ rest) e = let no = eqb-true (length (one ∷ rest)) 0 e in absurd (omega (arith, no))
+
+-- a query whose ends tell of no referral that shows a fault shows none
+pub told_nothing : (config : Config) (rewrites states : ℕ) (query name : Labels) (ends : StraightEnds) → (length ends.faulty.items == 0) ≡ true
+    → IsToldFor config rewrites states (told_of query ends) name → IsClassVerdict config rewrites states name (Faults [])
+told_nothing config rewrites states query name ends none told =
+    subst (λ (all : List Fault). IsToldFor config rewrites states all name) (ap (faults_at query) (none_there ends.faulty.items none)) told [] none_first
+
+-- ---- the verdict of a query with straight ends
 
 -- the query reaches few pairs
 abbrev pub IsFew : Config → ℕ → ℕ → Labels → Type 0
 IsFew config rewrites states query = HasMoreThan (IsReached config rewrites query) states → ⊥
 
--- the query shows no fault with the two sets of learnt addresses
-abbrev pub IsSilent : Config → ℕ → Labels → Deps → Type 0
-IsSilent config rewrites query deps =
-    (rtype : RrType) (fault : Fault) → Shows (with_lists (following config rewrites deps.least) deps.least deps.greatest) query rtype fault → ⊥
+-- the query shows these faults with the two sets of learnt addresses
+abbrev pub ShowsTold : Config → ℕ → Deps → List Fault → Labels → Type 0
+ShowsTold config rewrites deps told query = ShowsThese (with_lists (following config rewrites deps.least) deps.least deps.greatest) query told
 
 module _ (config : Config) (rewrites states : ℕ) (query : Labels) (deps : Deps) (sets : AreSets config rewrites states deps) where
-  -- so the class of such a query has no faults
-  quiet : (name : Labels) → IsFew config rewrites states name → IsSilent config rewrites name deps → IsClassVerdict config rewrites states name (Faults [])
-  quiet name few silent = (
+  -- so the verdict of such a query has the first of each
+  told_for : (told : List Fault) (name : Labels) → IsFew config rewrites states name → ShowsTold config rewrites deps told name → IsToldFor config rewrites states told name
+  told_for told name few these shown firsts = (
     few,
-    all_sought config rewrites states deps sets name []
-        (none_shown _ name
-        (λ rtype fault shows. silent rtype fault
-        ((lists_show config rewrites deps.least deps.least deps.greatest sets.least sets.greatest name rtype fault).1 shows))),
+    all_sought config rewrites states deps sets name shown (first_shown (with_sets (following config rewrites deps.least)) name told shown with_both firsts),
   )
+    where
+      with_both : ShowsThese (with_sets (following config rewrites deps.least)) name told
+      with_both =
+          record {
+            there = λ rtype fault has. (lists_show config rewrites deps.least deps.least deps.greatest sets.least sets.greatest name rtype fault).0 (these.there rtype fault has);
+            only = λ rtype fault shows. these.only rtype fault ((lists_show config rewrites deps.least deps.least deps.greatest sets.least sets.greatest name rtype fault).1 shows);
+          }
 
   -- what is told of the ends that a call gives holds of the query, and of the names of which they tell the ends too
   pub straight_ends : {E : Type 0} (given : Result (Option StraightEnds) E) → IfOk given (λ found. IfSome found (λ ends. IsFew config rewrites states query))
-      → IfOk given (λ found. IfSome found (λ ends. IsSilent config rewrites query deps))
+      → IfOk given (λ found. IfSome found (λ ends. ShowsTold config rewrites deps (told_of query ends) query))
       → IfOk given (λ found. IfSome found (λ ends. (rtype : RrType) → IsBoundedWith (following config rewrites deps.least) query rtype))
       → IfOk given (λ found. IfSome found (λ ends. (rtype : RrType) (outcome : Option Leaf)
       → HasOutcome (following config rewrites deps.least) query rtype outcome ↔ IsOutcomeOf ends rtype outcome))
       → IfOk given (λ found. IfSome found (λ ends. ends.below ≡ true → (name : Labels) → NoOriginBetween config query name → IsFew config rewrites states name))
-      → IfOk given (λ found. IfSome found (λ ends. ends.below ≡ true → (name : Labels) → NoOriginBetween config query name → IsSilent config rewrites name deps))
+      → IfOk given (λ found. IfSome found (λ ends. ends.below ≡ true → (name : Labels) → NoOriginBetween config query name → ShowsTold config rewrites deps (told_of query ends) name))
       → IfOk given (λ found. IfSome found (λ ends. ends.unnamed_below ≡ true → (tail : Labels) → IsUnnamedTail config query tail → IsFew config rewrites states (query ++ tail)))
-      → IfOk given (λ found. IfSome found (λ ends. ends.unnamed_below ≡ true → (tail : Labels) → IsUnnamedTail config query tail → IsSilent config rewrites (query ++ tail) deps))
+      → IfOk given (λ found. IfSome found (λ ends. ends.unnamed_below ≡ true → (tail : Labels) → IsUnnamedTail config query tail
+      → ShowsTold config rewrites deps (told_of query ends) (query ++ tail)))
       → IfOk given (λ found. IfSome found (AreStraightEnds config rewrites states query))
-  straight_ends (Ok None) few silent bounded outcomes few_below silent_below few_unnamed silent_unnamed = tt
-  straight_ends (Ok (Some ends)) few silent bounded outcomes few_below silent_below few_unnamed silent_unnamed =
+  straight_ends (Ok None) few shown bounded outcomes few_below shown_below few_unnamed shown_unnamed = tt
+  straight_ends (Ok (Some ends)) few shown bounded outcomes few_below shown_below few_unnamed shown_unnamed =
       record {
         few = few;
         learnt = sets.none_passes;
@@ -75,8 +94,8 @@ module _ (config : Config) (rewrites states : ℕ) (query : Labels) (deps : Deps
         in_force = sets.least;
         bounded = bounded;
         outcomes = outcomes;
-        quiet = quiet query few silent;
-        quiet_below = λ below name between. quiet name (few_below below name between) (silent_below below name between);
-        quiet_unnamed = λ below tail is. quiet (query ++ tail) (few_unnamed below tail is) (silent_unnamed below tail is);
+        told = told_for (told_of query ends) query few shown;
+        told_below = λ below name between. told_for (told_of query ends) name (few_below below name between) (shown_below below name between);
+        told_unnamed = λ below tail is. told_for (told_of query ends) (query ++ tail) (few_unnamed below tail is) (shown_unnamed below tail is);
       }
-  straight_ends (Err fault) few silent bounded outcomes few_below silent_below few_unnamed silent_unnamed = tt
+  straight_ends (Err fault) few shown bounded outcomes few_below shown_below few_unnamed shown_unnamed = tt

@@ -1,11 +1,15 @@
 -- The queries of a configuration within their limits, and what is known of the class of one: for the contracts of the calls
 -- on query graphs.
-use Rattle.std.specs.Prelude.{◌≡◌, ◌↔◌, ◌++◌, ℕ, true, List, [], Option}
+use Rattle.std.specs.Prelude.{◌≡◌, ◌↔◌, ◌++◌, ℕ, true, List, Option}
 use Rattle.dns_data.specs.Name.{Labels}
 use Rattle.dns_data.specs.declared.rr_type.RrType.{RrType}
+use Rattle.dns_data.specs.declared.rr_type.RrType.TheVariants as types
+use Rattle.graph_form.specs.Branches.{with_type}
 use Rattle.graph_form.specs.Graph.{PlainGraph}
 use Rattle.graph_form.specs.GraphOf.{IsExactIn, IsGraphOf}
 use Rattle.graph_form.specs.Report.{Subject}
+use Rattle.graph_form.specs.Verdict.{AreFirstTypes}
+use Rattle.graph_form.specs.declared.report.Seen.{Seen}
 use Rattle.net_model.specs.declared.config.Config.{Config}
 use Rattle.net_model.specs.declared.class.Class.{Class}
 use Rattle.net_model.specs.Class.{IsClassOf, IsRepresentative}
@@ -15,10 +19,11 @@ use Rattle.net_model.specs.Step.{following}
 use Rattle.net_model.specs.Tails.{IsUnnamedTail}
 use Rattle.net_model.specs.Walk.{IsBoundedWith}
 use Rattle.net_model.specs.declared.deps.Deps.{Deps}
+use Rattle.net_model.specs.declared.fault.Fault.{Fault}
 use Rattle.net_model.specs.declared.walk.Leaf.{Leaf}
 use Rattle.query_classes.specs.TreeNames.{AreBaseNamesOf}
 use Rattle.straight_walks.specs.Ends.{IsOutcomeOf}
-use Rattle.straight_walks.specs.Straight.{NoOriginBetween}
+use Rattle.straight_walks.specs.Straight.{NoOriginBetween, told_of}
 use Rattle.straight_walks.specs.declared.ends.StraightEnds.{StraightEnds}
 use Rattle.walk_laws.specs.Outcome.{HasOutcome}
 use Rattle.query_verdicts.specs.Verdict.{IsClassVerdict, PassesStates, SomeServerPasses}
@@ -65,10 +70,16 @@ pub record IsLeastGraph (config : Config) (rewrites : ℕ) (query : Labels) (gra
   pub is_graph : IsGraphOf (following config rewrites followed) query graph
   pub exact : IsExactIn (following config rewrites followed) query graph
 
+-- the verdict of a query that shows these faults, with all types alike: each once, with the first type
+abbrev pub IsToldFor : Config → ℕ → ℕ → List Fault → Labels → Type 0
+IsToldFor config rewrites states told query =
+    (shown : List Seen) → AreFirstTypes (with_type types.A told) shown → IsClassVerdict config rewrites states query (Faults shown)
+
 -- The walks of the query end so while the servers of the set in force are followed: it has these outcomes and no
 -- others, and no walk of it ends in a name of more than 255 octets (RFC 6672 section 2.2). Neither it nor the name of
--- some server reaches too many pairs of state and type, and it shows no fault; nor does a name below it with no origin
--- between, where they are its ends too, or the query with an unnamed tail, where its ends are known too.
+-- some server reaches too many pairs of state and type, and it shows the faults that the ends tell and no others; so does
+-- a name below it with no origin between, where they are its ends too, and the query with an unnamed tail, where its ends
+-- are known too.
 pub record AreStraightEnds (config : Config) (rewrites states : ℕ) (query : Labels) (ends : StraightEnds) : Type 0 where
   pub few : PassesStates config rewrites states query → ⊥
   pub learnt : SomeServerPasses config rewrites states → ⊥
@@ -76,9 +87,10 @@ pub record AreStraightEnds (config : Config) (rewrites states : ℕ) (query : La
   pub in_force : IsInForce config rewrites followed
   pub bounded : (rtype : RrType) → IsBoundedWith (following config rewrites followed) query rtype
   pub outcomes : (rtype : RrType) (outcome : Option Leaf) → HasOutcome (following config rewrites followed) query rtype outcome ↔ IsOutcomeOf ends rtype outcome
-  pub quiet : IsClassVerdict config rewrites states query (Faults [])
-  pub quiet_below : ends.below ≡ true → (name : Labels) → NoOriginBetween config query name → IsClassVerdict config rewrites states name (Faults [])
-  pub quiet_unnamed : ends.unnamed_below ≡ true → (tail : Labels) → IsUnnamedTail config query tail → IsClassVerdict config rewrites states (query ++ tail) (Faults [])
+  pub told : IsToldFor config rewrites states (told_of query ends) query
+  pub told_below : ends.below ≡ true → (name : Labels) → NoOriginBetween config query name → IsToldFor config rewrites states (told_of query ends) name
+  pub told_unnamed : ends.unnamed_below ≡ true → (tail : Labels) → IsUnnamedTail config query tail
+      → IsToldFor config rewrites states (told_of query ends) (query ++ tail)
 
 -- the query is of the class under the ground, and its representative
 pub record StandsFor (ground : Ground) (class : Class) (query : Labels) : Type 0 where

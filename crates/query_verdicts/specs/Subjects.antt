@@ -1,18 +1,14 @@
 -- The subjects of judges of names, and what such a judge is made of.
-use Rattle.std.specs.Prelude.{◌≡◌, ◌++◌, ℕ, true, Option, MatchOption}
+use Rattle.std.specs.Prelude.{◌≡◌, ℕ, Option, MatchOption}
 use Rattle.dns_data.specs.Name.{Labels}
 use Rattle.graph_form.specs.Report.{Subject}
 use Rattle.net_model.specs.declared.class.Class.TheVariants.{Below}
 use Rattle.net_model.specs.Class.{IsRepresentative}
 use Rattle.net_model.specs.Reading.{Ground, Covers, ground_of}
-use Rattle.net_model.specs.Tails.{IsUnnamedTail}
 use Rattle.query_classes.specs.Children.{IsInTree}
 use Rattle.query_classes.specs.Members.{RepresentsClass}
 use Rattle.query_classes.specs.TreeNames.{AreBaseNamesOf}
-use Rattle.straight_walks.specs.Straight.{NoOriginBetween}
 use Rattle.query_verdicts.specs.Queries.{LimitedQueries, queries_of}
-use Rattle.query_verdicts.specs.Verdict.{IsQuiet}
-use Rattle.query_verdicts.specs.declared.quiet.Quiet.{Quiet}
 
 -- the subject's ground covers its configuration, and its class tree has the name at or below which queries are looked at
 pub record IsCovering (subject : Subject) : Type 0 where
@@ -32,10 +28,3 @@ pub record AreOfSubject (subject : Subject) (states : ℕ) (queries : LimitedQue
 abbrev pub RepresentsBelow : Ground → Labels → Option Labels → Type 0
 RepresentsBelow base above found =
     MatchOption found ((query : Labels) → IsRepresentative base (Below above) query → ⊥) (RepresentsClass base (Below above))
-
--- the query shows no fault; nor does a name below it with no origin between, or the query with an unnamed tail, where that is
--- told
-pub record IsQuietAt (subject : Subject) (states : ℕ) (query : Labels) (quiet : Quiet) : Type 0 where
-  pub alone : IsQuiet subject states query
-  pub below : quiet.below ≡ true → (name : Labels) → NoOriginBetween subject.config query name → IsQuiet subject states name
-  pub unnamed : quiet.unnamed ≡ true → (tail : Labels) → IsUnnamedTail subject.config query tail → IsQuiet subject states (query ++ tail)

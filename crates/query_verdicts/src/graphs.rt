@@ -93,10 +93,10 @@ impl<'a> QueryGraphs<'a> {
     }
 
     /// What the walks of a query end in while the servers of the least set of learnt addresses are followed, where they
-    /// are seen to go straight there without a graph, or `None`. The query shows no fault then, nor does a name below it
-    /// with no origin of a zone between, where these are its ends too, or the query with any unnamed tail, where its ends
-    /// are known too. The query's region is looked for near a place first, whatever that is, and the place is left near
-    /// which that of the next query may be looked for.
+    /// are seen to go straight there without a graph, or `None`. The query shows the faults that the ends tell then, and
+    /// no others; so does a name below it with no origin of a zone between, where these are its ends too, and the query
+    /// with any unnamed tail, where its ends are known too. The query's region is looked for near a place first, whatever
+    /// that is, and the place is left near which that of the next query may be looked for.
     pub fn straight_ends(
         &self,
         near: &mut usize,
@@ -109,6 +109,7 @@ impl<'a> QueryGraphs<'a> {
                 self.queries.alloc,
                 &self.queries.trees,
                 &learnt.sets,
+                &learnt.table,
                 &learnt.regions,
                 near,
                 query,

@@ -17,13 +17,14 @@ use net_model::{Config, Server};
 use std::alloc::Global;
 use std::collections::BTreeSet;
 use straight_walks::Regions;
-use zone_lookup::{LearntSets, set_of};
+use zone_lookup::{CutTable, LearntSets, set_of};
 
-/// The two sets of learnt addresses, the regions of names by which queries are seen to go straight, and whether each
-/// configured server is seen to be a top server or in the least set.
+/// The two sets of learnt addresses, the table of what the referrals of all zone cuts show, the regions of names by which
+/// queries are seen to go straight, and whether each configured server is seen to be a top server or in the least set.
 #[derive(Drop)]
 pub(crate) struct Learnt<'a> {
     pub sets: LearntSets,
+    pub table: CutTable<'a>,
     pub regions: Regions<'a>,
     pub all_followed: bool,
 }
@@ -48,10 +49,12 @@ fn learnt_from<'a>(queries: &Queries<'a>, told: &[AddressTold<'_>]) -> Result<Le
     ensures { IfOk result (IsRightLearnt queries.now.trees queries.now.rewrites queries.now.states) }
 {
     let sets = sets_from(queries, told)?;
-    let regions = Regions::build(queries.alloc, &queries.trees, &sets)?;
+    let table = CutTable::build(queries.alloc, &queries.trees, &sets)?;
+    let regions = Regions::build(queries.alloc, &queries.trees, &sets, &table)?;
     let all_followed = follows_all(queries.alloc, queries.trees.config(), &sets)?;
     Ok(Learnt {
         sets,
+        table,
         regions,
         all_followed,
     })

@@ -18,7 +18,8 @@
 //! classes of a name, `first_classes` keeps of each fault the first class that shows it, and `report` makes the entry.
 //!
 //! Costs: `prepare` makes the trees of all zones and, where walks of a server's name may lead on from the top servers
-//! or these are few, a graph of that name, once. A name of the tree keeps its own live set, found once, one label on
+//! or these are few, a graph of that name, once; and a table that tells of each zone cut what its referrals show, which all
+//! graphs share. A name of the tree keeps its own live set, found once, one label on
 //! from that of the name above it: none is walked to from the root to be judged, and judging copies neither the name
 //! nor its live set. Judging a name makes a graph for each of its classes, which is dropped when its faults are found:
 //! a verdict keeps no walk, and takes no memory of its own where no class of the name shows a fault, nor where it is seen
@@ -45,7 +46,6 @@ mod name_judge;
 mod own_class;
 mod passed;
 mod queries;
-mod quiet;
 mod report;
 mod servers;
 mod subject;

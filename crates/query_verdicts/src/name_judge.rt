@@ -5,17 +5,17 @@ ghost use Rattle.dns_data.specs.Name.{Labels};
 ghost use Rattle.net_model.specs.Tails.{IsUnnamedTail};
 ghost use Rattle.net_model.specs.declared.class.Class.TheVariants.{Below};
 ghost use Rattle.query_verdicts.specs.Passed.{IsFirstServerPassed};
-ghost use Rattle.query_verdicts.specs.Queries.{IsLeastGraph, StandsFor};
-ghost use Rattle.query_verdicts.specs.Subjects.{AreOfSubject, IsCovering, IsQuietAt, RepresentsBelow};
+ghost use Rattle.query_verdicts.specs.Queries.{AreStraightEnds, IsLeastGraph, IsToldFor, StandsFor};
+ghost use Rattle.query_verdicts.specs.Subjects.{AreOfSubject, IsCovering, RepresentsBelow};
 ghost use Rattle.query_verdicts.specs.Verdict.{IsBelowVerdict, IsClassVerdict, IsNameVerdict, IsQuiet, PassesStates, SomeServerPasses};
 ghost use Rattle.query_verdicts.specs.declared.verdict.ClassVerdict.TheVariants.{Faults};
+ghost use Rattle.straight_walks.specs.Straight.{told_of};
 ghost use Rattle.query_classes.specs.Children.{AreChildren, IsInTree};
 ghost use Rattle.query_classes.specs.Members.{RepresentsClass};
 ghost use Rattle.query_classes.specs.TreeNames.{AreBaseNamesOf, IsLiveIn, IsToldBelow};
 
 use crate::graphs::QueryGraphs;
 use crate::own_class::OwnClass;
-use crate::quiet::Quiet;
 use crate::subject::{OnSubject, SubjectGround};
 use crate::verdict::{ClassVerdict, FiledVerdict, NameVerdict};
 use dns_data::{List, Name, NoMemory};
@@ -26,6 +26,7 @@ use net_model::Class;
 use query_classes::{LiveName, TreeName};
 use std::alloc::Global;
 use std::marker::{Model, PhantomData};
+use straight_walks::StraightEnds;
 use verdict_book::Judged;
 
 /// What judges the names of a subject's class tree at or below the subject's name, and makes the subject's report of their
@@ -123,9 +124,9 @@ impl<'a, S: OnSubject> NameJudge<'a, S> {
         ensures children { IfOk result (λ judged. AreChildren S.subject.ground item.now judged.children) }
     {
         let name = item.live_name();
-        let quiet = self.quiet(near, &name.name)?;
-        let all_quiet = self.all_quiet(quiet, *near, &name.name);
-        let verdict = self.judge_name(quiet, near, name)?;
+        let ends = self.straight(near, &name.name)?;
+        let all_quiet = self.all_quiet(&ends, *near, &name.name);
+        let verdict = self.judge_name(&ends, near, name)?;
         self.with_children(item, verdict, all_quiet)
     }
 
@@ -147,27 +148,22 @@ impl<'a, S: OnSubject> NameJudge<'a, S> {
         Ok(Judged { verdict, children })
     }
 
-    /// The verdict of a name of the class tree: of the class of the name alone, of which it is told whether it shows no
-    /// fault, and of the class below it. The region of the second query is searched near a place first.
+    /// The verdict of a name of the class tree: of the class of the name alone, and of the class below it. What walks of
+    /// the name end in is told where they are seen to go straight. The region of the second query is searched near a
+    /// place first.
     fn judge_name(
         &self,
-        quiet: Option<Quiet>,
+        ends: &Option<StraightEnds<'_, 'a>>,
         near: &mut usize,
         name: &LiveName,
     ) -> Result<NameVerdict<ClassVerdict>, NoMemory>
         requires live { IsLiveIn S.subject.ground name.now.name name.now.live }
         requires in_tree { IsInTree S.subject.ground name.now.name }
-        requires quiet { IfSome quiet (IsQuietAt S.subject S.states name.now.name) }
+        requires ends { IfSome ends.now (AreStraightEnds S.subject.config S.subject.rewrites S.states name.now.name) }
         ensures { IfOk result (IsNameVerdict S.subject S.states name.now.name) }
     {
-        match quiet {
-            Some(quiet) => {
-                if quiet.unnamed {
-                    self.quiet_name(name)
-                } else {
-                    self.with_below(near, name, self.no_fault())
-                }
-            }
+        match ends {
+            Some(ends) => self.straight_name(ends, near, name),
             None => {
                 let exact = self.looked_alone(&name.name)?;
                 self.with_below(near, name, exact)
@@ -175,36 +171,84 @@ impl<'a, S: OnSubject> NameJudge<'a, S> {
         }
     }
 
-    /// Whether the walks of a query are seen to go straight, so that it shows no fault: `None` where they aren't, and else
-    /// of which names below it it is known that they show none either.
-    fn quiet(&self, near: &mut usize, query: &Name) -> Result<Option<Quiet>, NoMemory>
-        ensures { IfOk result (λ found. IfSome found (IsQuietAt S.subject S.states query.now)) }
+    /// The verdict of a name of the class tree whose walks go straight to these ends.
+    fn straight_name(
+        &self,
+        ends: &StraightEnds<'_, 'a>,
+        near: &mut usize,
+        name: &LiveName,
+    ) -> Result<NameVerdict<ClassVerdict>, NoMemory>
+        requires live { IsLiveIn S.subject.ground name.now.name name.now.live }
+        requires in_tree { IsInTree S.subject.ground name.now.name }
+        requires ends { AreStraightEnds S.subject.config S.subject.rewrites S.states name.now.name ends.now }
+        ensures { IfOk result (IsNameVerdict S.subject S.states name.now.name) }
     {
-        match self.graphs.straight_ends(near, query)? {
-            Some(ends) => Ok(Some(Quiet {
-                below: ends.below,
-                unnamed: ends.unnamed_below,
-            })),
-            None => Ok(None),
+        let exact = self.told(ends, &name.name)?;
+        if ends.unnamed_below {
+            self.with_same_below(name, exact, ends)
+        } else {
+            self.with_below(near, name, exact)
         }
     }
 
-    /// Whether it is known that no name at or below a query shows a fault: no origin of a zone stands below it, as seen
-    /// near a place.
-    fn all_quiet(&self, quiet: Option<Quiet>, near: usize, query: &Name) -> bool
-        requires { IfSome quiet (IsQuietAt S.subject S.states query.now) }
+    /// The verdict of a name of the class tree, of whose class alone it is this, where the walks of the name with any
+    /// unnamed tail show the same faults as those of the name, which go straight to these ends.
+    fn with_same_below(
+        &self,
+        name: &LiveName,
+        exact: ClassVerdict,
+        ends: &StraightEnds<'_, 'a>,
+    ) -> Result<NameVerdict<ClassVerdict>, NoMemory>
+        requires live { IsLiveIn S.subject.ground name.now.name name.now.live }
+        requires in_tree { IsInTree S.subject.ground name.now.name }
+        requires exact { IsClassVerdict S.subject.config S.subject.rewrites S.states name.now.name exact }
+        requires below { (tail : Labels) → IsUnnamedTail S.subject.config name.now.name tail
+            → IsToldFor S.subject.config S.subject.rewrites S.states (told_of name.now.name ends.now) (name.now.name ++ tail) }
+        ensures { IfOk result (IsNameVerdict S.subject S.states name.now.name) }
+    {
+        let verdict = self.told(ends, &name.name)?;
+        let below = self.below_with(name, verdict)?;
+        Ok(NameVerdict { exact, below })
+    }
+
+    /// What the walks of a query end in, where they are seen to go straight, or `None`.
+    fn straight(
+        &self,
+        near: &mut usize,
+        query: &Name,
+    ) -> Result<Option<StraightEnds<'_, 'a>>, NoMemory>
+        ensures { IfOk result (λ found. IfSome found (AreStraightEnds S.subject.config S.subject.rewrites S.states query.now)) }
+    {
+        self.graphs.straight_ends(near, query)
+    }
+
+    /// Whether it is known that no name at or below a query shows a fault: its walks go straight to ends that tell none,
+    /// which are those of the names below it too, and no origin of a zone stands below it, as seen near a place.
+    fn all_quiet(&self, ends: &Option<StraightEnds<'_, 'a>>, near: usize, query: &Name) -> bool
+        requires { IfSome ends.now (AreStraightEnds S.subject.config S.subject.rewrites S.states query.now) }
         ensures { result ≡ true → IsToldBelow (IsQuiet S.subject S.states) query.now }
     {
-        match quiet {
-            Some(quiet) => {
-                if quiet.below {
-                    self.graphs.no_origin_below(near, query)
-                } else {
-                    false
+        match ends {
+            Some(ends) => {
+                if !ends.below {
+                    return false;
                 }
+                if !ends.faulty.as_slice().is_empty() {
+                    return false;
+                }
+                self.graphs.no_origin_below(near, query)
             }
             None => false,
         }
+    }
+
+    /// The verdict of a class that shows the faults that the ends tell of a query, and no others.
+    fn told(&self, ends: &StraightEnds<'_, 'a>, query: &Name) -> Result<ClassVerdict, NoMemory>
+        ensures { IfOk result (λ verdict. (name : Labels) → IsToldFor S.subject.config S.subject.rewrites S.states (told_of query.now ends.now) name
+            → IsClassVerdict S.subject.config S.subject.rewrites S.states name verdict) }
+    {
+        let shown = ends.shown(self.alloc, query)?;
+        Ok(ClassVerdict::Faults(shown))
     }
 
     /// The verdict of a class whose representative shows no fault.
@@ -222,23 +266,28 @@ impl<'a, S: OnSubject> NameJudge<'a, S> {
         requires below { (tail : Labels) → IsUnnamedTail S.subject.config name.now.name tail → IsQuiet S.subject S.states (name.now.name ++ tail) }
         ensures { IfOk result (IsNameVerdict S.subject S.states name.now.name) }
     {
-        let below = self.quiet_below(name)?;
+        let below = self.below_with(name, self.no_fault())?;
         Ok(NameVerdict {
             exact: self.no_fault(),
             below,
         })
     }
 
-    /// The verdict of the class below a name of the class tree, or `None` where it is empty, where the name shows no fault
-    /// with any unnamed tail.
-    fn quiet_below(&self, above: &LiveName) -> Result<Option<ClassVerdict>, NoMemory>
+    /// The verdict of the class below a name of the class tree, or `None` where it is empty, where this is the verdict of
+    /// the name with each unnamed tail.
+    fn below_with(
+        &self,
+        above: &LiveName,
+        verdict: ClassVerdict,
+    ) -> Result<Option<ClassVerdict>, NoMemory>
         requires live { IsLiveIn S.subject.ground above.now.name above.now.live }
         requires in_tree { IsInTree S.subject.ground above.now.name }
-        requires below { (tail : Labels) → IsUnnamedTail S.subject.config above.now.name tail → IsQuiet S.subject S.states (above.now.name ++ tail) }
+        requires below { (tail : Labels) → IsUnnamedTail S.subject.config above.now.name tail
+            → IsClassVerdict S.subject.config S.subject.rewrites S.states (above.now.name ++ tail) verdict }
         ensures { IfOk result (IsBelowVerdict S.subject S.states above.now.name) }
     {
         if above.has_below(self.alloc, &self.names)? {
-            Ok(Some(self.no_fault()))
+            Ok(Some(verdict))
         } else {
             Ok(None)
         }
@@ -289,8 +338,8 @@ impl<'a, S: OnSubject> NameJudge<'a, S> {
         requires { RepresentsClass S.subject.ground (Below above.now) query.now }
         ensures { IfOk result (IsClassVerdict S.subject.config S.subject.rewrites S.states query.now) }
     {
-        match self.quiet(near, query)? {
-            Some(_) => Ok(self.no_fault()),
+        match self.straight(near, query)? {
+            Some(ends) => self.told(&ends, query),
             None => {
                 let class = Class::Below(above.copy(self.alloc)?);
                 self.looked_class(&class, query)

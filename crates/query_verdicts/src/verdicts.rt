@@ -14,6 +14,7 @@ ghost use Rattle.net_model.specs.Learnt.{IsLeast, IsGreatest};
 ghost use Rattle.net_model.specs.Shown.{with_sets};
 ghost use Rattle.net_model.specs.Step.{following};
 ghost use Rattle.rewrite_checks.specs.Rewrites.{IsGraphFor};
+ghost use Rattle.zone_lookup.specs.CutTable.{IsTableOf};
 
 use crate::learnt::Learnt;
 use crate::own_class::{OwnClass, represents};
@@ -27,7 +28,6 @@ use net_model::Class;
 use query_classes::class_of;
 use rewrite_checks::rewrite_faults;
 use std::alloc::Global;
-use zone_lookup::LearntSets;
 
 /// The verdict of a query by a graph of its walks, with what is learnt of its configuration.
 pub(crate) fn verdict_with(
@@ -79,11 +79,11 @@ fn faults_of(
 {
     let limited = graph_in_least(queries, learnt, graph)?;
     match own {
-        OwnClass::Represents(class) => shown_in(queries, &learnt.sets, class, true, &limited),
+        OwnClass::Represents(class) => shown_in(queries, learnt, class, true, &limited),
         OwnClass::Asked(names) => {
             let class = class_of(queries.alloc, names, query)?;
             let represents = represents(queries.alloc, names, &class, query)?;
-            shown_in(queries, &learnt.sets, &class, represents, &limited)
+            shown_in(queries, learnt, &class, represents, &limited)
         }
     }
 }
@@ -93,18 +93,25 @@ fn faults_of(
 /// represents it.
 fn shown_in(
     queries: &Queries<'_>,
-    sets: &LearntSets,
+    learnt: &Learnt<'_>,
     class: &Class,
     represents: bool,
     graph: &Graph,
 ) -> Result<List<Seen>, NoMemory>
-    ensures { IfOk result (λ shown. (rewrites : ℕ) (query : Labels) → IsLeast queries.now.trees rewrites sets.now.least → IsGreatest queries.now.trees rewrites sets.now.greatest
-        → IsGraphFor (following queries.now.trees rewrites sets.now.least) query class.now represents graph.now
-        → AreShownOf (with_sets (following queries.now.trees rewrites sets.now.least)) query (λ fault. true) shown) }
+    requires { IsTableOf queries.now.trees learnt.now.sets learnt.now.table }
+    ensures { IfOk result (λ shown. (rewrites : ℕ) (query : Labels) → IsLeast queries.now.trees rewrites learnt.now.sets.least → IsGreatest queries.now.trees rewrites learnt.now.sets.greatest
+        → IsGraphFor (following queries.now.trees rewrites learnt.now.sets.least) query class.now represents graph.now
+        → AreShownOf (with_sets (following queries.now.trees rewrites learnt.now.sets.least)) query (λ fault. true) shown) }
 {
     let alloc = queries.alloc;
     let of_rewrites = rewrite_faults(alloc, class, represents, graph)?;
-    let of_delegations = delegation_faults_with(alloc, &queries.trees, sets, graph)?;
+    let of_delegations = delegation_faults_with(
+        alloc,
+        &queries.trees,
+        &learnt.sets,
+        &learnt.table,
+        graph,
+    )?;
     // Named, since the proof speaks of the list that comes where memory suffices.
     let shown = first_of_both(alloc, of_rewrites, of_delegations)?;
     Ok(shown)

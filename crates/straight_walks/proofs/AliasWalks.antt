@@ -7,6 +7,7 @@ use Rattle.dns_data.specs.declared.rr_type.RrType.{RrType}
 use Rattle.dns_data.proofs.Membership.{has_first}
 use Rattle.graph_form.proofs.Places.{place_of_item}
 use Rattle.net_model.specs.declared.deps.Deps.{Deps}
+use Rattle.net_model.specs.declared.fault.Fault.{Fault}
 use Rattle.net_model.specs.Shown.{is_authoritative}
 use Rattle.net_model.specs.Step.{Setting, Branch, End, next}
 use Rattle.net_model.specs.Walk.{branched, led_on, walk_from}
@@ -48,14 +49,14 @@ ends_along setting rtype leaf state (to ∷ behind) (place, by_dname, target, go
 
 -- each state on a way of rewrites to an answer goes straight among states that have those behind it, if the answer is
 -- one of the ends
-pub along_steps : (setting : Setting) (deps : Deps) (ends : StraightEnds) (rtype : RrType) (all : List State) (leaf : Leaf) → is_authoritative leaf ≡ true
+pub along_steps : (setting : Setting) (deps : Deps) (faulty : List Fault) (ends : StraightEnds) (rtype : RrType) (all : List State) (leaf : Leaf) → is_authoritative leaf ≡ true
     → IsOutcomeOf ends rtype (Some leaf) → (state : State) (behind : List State) → AnswersAlong setting rtype leaf state behind
-    → AllByRecursion (Contains all) behind → AllByRecursion (StepsStraight setting deps ends rtype all) (state ∷ behind)
-along_steps setting deps ends rtype all leaf is told state [] (ends_so, exists) among = (
-  subst (AllByRecursion (BranchStraight setting deps ends rtype all state)) (sym ends_so) (inr (inl (leaf, is, told, exists, refl)), tt),
+    → AllByRecursion (Contains all) behind → AllByRecursion (StepsStraight setting deps faulty ends rtype all) (state ∷ behind)
+along_steps setting deps faulty ends rtype all leaf is told state [] (ends_so, exists) among = (
+  subst (AllByRecursion (BranchStraight setting deps faulty ends rtype all state)) (sym ends_so) (inr (inl (leaf, is, told, exists, refl)), tt),
   tt,
 )
-along_steps setting deps ends rtype all leaf is told state (to ∷ behind) (place, by_dname, target, goes, along) among = (
-  subst (AllByRecursion (BranchStraight setting deps ends rtype all state)) (sym goes) (inr (inr (place, by_dname, target, to, refl, among.0)), tt),
-  along_steps setting deps ends rtype all leaf is told to behind along among.1,
+along_steps setting deps faulty ends rtype all leaf is told state (to ∷ behind) (place, by_dname, target, goes, along) among = (
+  subst (AllByRecursion (BranchStraight setting deps faulty ends rtype all state)) (sym goes) (inr (inr (place, by_dname, target, to, refl, among.0)), tt),
+  along_steps setting deps faulty ends rtype all leaf is told to behind along among.1,
 )

@@ -161,6 +161,15 @@ module _ (zone : Zone) (cut : Labels) where
             ap (λ (b : Bool). cond b (by_dname zone owner) (ByCut cut))
             (le-ltb (length owner) (length cut) (as_long owner (found_there redirects_whole behind owner is).0))
 
+-- a zone cut that decides at a name is at or above it
+pub cut_begins : (zone : Zone) (name cut : Labels) → deciding zone name ≡ ByCut cut → (zone_cut zone name ≡ Some cut) × Begins cut name
+cut_begins zone name cut decides = (is, from_prefixes name cut (found_there cuts (prefixes name) cut is).0) where
+  cuts : Labels → Bool
+  cuts above = nat_lt (length zone.origin) (length above) && owns zone above types.Ns
+
+  is : zone_cut zone name ≡ Some cut
+  is = is_the_cut zone name types.A cut [] (zone_cut zone name) (dname_owner zone name) decides
+
 -- a zone cut that decides at a name decides at each name below it
 pub cut_stays : (zone : Zone) (name tail cut : Labels) → deciding zone name ≡ ByCut cut → deciding zone (name ++ tail) ≡ ByCut cut
 cut_stays zone name tail cut decides =
@@ -174,10 +183,10 @@ cut_stays zone name tail cut decides =
     cuts above = nat_lt (length zone.origin) (length above) && owns zone above types.Ns
 
     is : zone_cut zone name ≡ Some cut
-    is = is_the_cut zone name types.A cut [] (zone_cut zone name) (dname_owner zone name) decides
+    is = (cut_begins zone name cut decides).0
 
     rest : Begins cut name
-    rest = from_prefixes name cut (found_there cuts (prefixes name) cut is).0
+    rest = (cut_begins zone name cut decides).1
 
     below : cut ++ (rest.0 ++ tail) ≡ name ++ tail
     below = sym (append_assoc cut rest.0 tail) ∙ ap (λ (x : Labels). x ++ tail) rest.1

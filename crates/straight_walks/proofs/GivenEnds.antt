@@ -1,14 +1,14 @@
 -- What is told of the ends that a search gives, where it gives some.
-use Rattle.std.proofs.Common.{◌≡◌, ℕ, ◌*◌, ◌/◌, ◌≤◌, ◌++◌, true, Option, Some, None, Result, Ok, Err, refl, inl, inr, arith}
+use Rattle.std.proofs.Common.{◌≡◌, ℕ, ◌*◌, ◌/◌, ◌≤◌, ◌++◌, true, Option, Some, None, Result, Ok, Err, refl, subst, inl, inr, arith}
 use Rattle.std.specs.Prelude.{◌↔◌, IfOk, IfSome}
 use Rattle.std.proofs.Math.Nat.{div-mul-le_self}
 use Rattle.std.proofs.lemmas.Nat.{mul-le}
 use Rattle.dns_data.specs.Name.{Labels}
 use Rattle.dns_data.specs.declared.rr_type.RrType.{RrType}
+use Rattle.dns_data.specs.declared.rr_type.RrType.TheVariants as types
 use Rattle.net_model.specs.declared.deps.Deps.{Deps}
-use Rattle.net_model.specs.declared.fault.Fault.{Fault}
 use Rattle.net_model.specs.Nearest.{server_names}
-use Rattle.net_model.specs.Shown.{Shows, with_lists}
+use Rattle.net_model.specs.Shown.{with_lists}
 use Rattle.net_model.specs.Step.{Setting, following}
 use Rattle.net_model.specs.Tails.{IsUnnamedTail}
 use Rattle.net_model.specs.Tree.{HasMoreThan, IsReached}
@@ -18,11 +18,13 @@ use Rattle.net_model.specs.declared.walk.Leaf.{Leaf}
 use Rattle.walk_laws.specs.Outcome.{HasOutcome}
 use Rattle.straight_walks.specs.Ends.{IsOutcomeOf}
 use Rattle.straight_walks.specs.Searching.{GoesStraightIn, nothing_below, HoldsOfEachTold}
-use Rattle.straight_walks.specs.Straight.{GoesStraight, NoOriginBetween}
+use Rattle.straight_walks.specs.Faulty.{AreAbove, ShowsThese}
+use Rattle.straight_walks.specs.Straight.{GoesStraight, NoOriginBetween, told_of}
 use Rattle.straight_walks.specs.declared.ends.StraightEnds.{StraightEnds}
 use Rattle.straight_walks.proofs.FewStates.{few_states}
 use Rattle.straight_walks.proofs.LeastFollowed.{all_followed, least_followed}
-use Rattle.straight_walks.proofs.ShowsNothing.{is_bounded, outcomes_are, shows_nothing}
+use Rattle.straight_walks.proofs.SameFaulty.{same_faults, same_faults_below}
+use Rattle.straight_walks.proofs.ShowsThese.{is_bounded, outcomes_are, shows_these}
 
 module _ (config : Config) (deps : Deps) (rewrites most : ℕ) (query : Labels) where
   -- the query goes straight to these ends, with each type
@@ -50,6 +52,10 @@ module _ (config : Config) (deps : Deps) (rewrites most : ℕ) (query : Labels) 
     by (Ok (Some ends)) straight = so ends straight
     by (Err fault) straight = tt
 
+  -- the zone cuts that are told to show faults are at or above the query
+  are_above : (ends : StraightEnds) → GoesStraightIn config deps rewrites most query ends → AreAbove query ends.faulty.items
+  are_above ends straight = (in_least config deps rewrites most query ends straight types.A).above
+
   -- a query with known ends reaches few pairs of state and type
   pub few_given : (states : ℕ) → most * 12 ≤ states → IfOk given (λ found. IfSome found (HoldsOfEachTold config query (GoesStraightIn config deps rewrites most)))
       → IfOk given (λ found. IfSome found (λ ends. HasMoreThan (IsReached config rewrites query) states → ⊥))
@@ -76,34 +82,36 @@ module _ (config : Config) (deps : Deps) (rewrites most : ℕ) (query : Labels) 
       few_states config rewrites deps most (query ++ tail) (nothing_below ends)
       (in_all config deps rewrites most (query ++ tail) (nothing_below ends) (straight (query ++ tail) (nothing_below ends) (inr (inr (below, (tail, is, refl), refl))))) states fits)
 
-  -- a query with known ends shows no fault
-  pub nothing_given : IfOk given (λ found. IfSome found (HoldsOfEachTold config query (GoesStraightIn config deps rewrites most)))
-      → IfOk given (λ found. IfSome found (λ ends. (rtype : RrType) (fault : Fault)
-      → Shows (with_lists (following config rewrites deps.least) deps.least deps.greatest) query rtype fault → ⊥))
-  nothing_given =
-      by_straight (λ ends. (rtype : RrType) (fault : Fault) → Shows (with_lists (following config rewrites deps.least) deps.least deps.greatest) query rtype fault → ⊥)
-      (λ ends straight. shows_nothing (following config rewrites deps.least) deps most query ends (in_least config deps rewrites most query ends (straight query ends (inl (refl, refl)))))
+  -- a query with known ends shows the faults that they tell
+  pub shown_given : IfOk given (λ found. IfSome found (HoldsOfEachTold config query (GoesStraightIn config deps rewrites most)))
+      → IfOk given (λ found. IfSome found (λ ends. ShowsThese (with_lists (following config rewrites deps.least) deps.least deps.greatest) query (told_of query ends)))
+  shown_given =
+      by_straight (λ ends. ShowsThese (with_lists (following config rewrites deps.least) deps.least deps.greatest) query (told_of query ends))
+      (λ ends straight. shows_these (following config rewrites deps.least) deps most query ends (in_least config deps rewrites most query ends (straight query ends (inl (refl, refl)))))
 
-  -- names below the query whose ends are the query's show no fault
-  pub nothing_given_below : IfOk given (λ found. IfSome found (HoldsOfEachTold config query (GoesStraightIn config deps rewrites most)))
-      → IfOk given (λ found. IfSome found (λ ends. ends.below ≡ true → (name : Labels) → NoOriginBetween config query name → (rtype : RrType) (fault : Fault)
-      → Shows (with_lists (following config rewrites deps.least) deps.least deps.greatest) name rtype fault → ⊥))
-  nothing_given_below =
-      by_straight (λ ends. ends.below ≡ true → (name : Labels) → NoOriginBetween config query name → (rtype : RrType) (fault : Fault)
-      → Shows (with_lists (following config rewrites deps.least) deps.least deps.greatest) name rtype fault → ⊥)
+  -- names below the query whose ends are the query's show them too
+  pub shown_given_below : IfOk given (λ found. IfSome found (HoldsOfEachTold config query (GoesStraightIn config deps rewrites most)))
+      → IfOk given (λ found. IfSome found (λ ends. ends.below ≡ true → (name : Labels) → NoOriginBetween config query name
+      → ShowsThese (with_lists (following config rewrites deps.least) deps.least deps.greatest) name (told_of query ends)))
+  shown_given_below =
+      by_straight (λ ends. ends.below ≡ true → (name : Labels) → NoOriginBetween config query name → ShowsThese (with_lists (following config rewrites deps.least) deps.least deps.greatest) name (told_of query ends))
       (λ ends straight below name between.
-      shows_nothing (following config rewrites deps.least) deps most name ends (in_least config deps rewrites most name ends (straight name ends (inr (inl (below, between, refl))))))
+      subst (ShowsThese (with_lists (following config rewrites deps.least) deps.least deps.greatest) name)
+      (same_faults_below query name between.above ends.faulty.items (are_above ends (straight query ends (inl (refl, refl)))))
+      (shows_these (following config rewrites deps.least) deps most name ends (in_least config deps rewrites most name ends (straight name ends (inr (inl (below, between, refl)))))))
 
-  -- the query with an unnamed tail shows no fault, if its ends are known then
-  pub nothing_given_unnamed : IfOk given (λ found. IfSome found (HoldsOfEachTold config query (GoesStraightIn config deps rewrites most)))
-      → IfOk given (λ found. IfSome found (λ ends. ends.unnamed_below ≡ true → (tail : Labels) → IsUnnamedTail config query tail → (rtype : RrType) (fault : Fault)
-      → Shows (with_lists (following config rewrites deps.least) deps.least deps.greatest) (query ++ tail) rtype fault → ⊥))
-  nothing_given_unnamed =
-      by_straight (λ ends. ends.unnamed_below ≡ true → (tail : Labels) → IsUnnamedTail config query tail → (rtype : RrType) (fault : Fault)
-      → Shows (with_lists (following config rewrites deps.least) deps.least deps.greatest) (query ++ tail) rtype fault → ⊥)
+  -- so does the query with an unnamed tail, if its ends are known then
+  pub shown_given_unnamed : IfOk given (λ found. IfSome found (HoldsOfEachTold config query (GoesStraightIn config deps rewrites most)))
+      → IfOk given (λ found. IfSome found (λ ends. ends.unnamed_below ≡ true → (tail : Labels) → IsUnnamedTail config query tail
+      → ShowsThese (with_lists (following config rewrites deps.least) deps.least deps.greatest) (query ++ tail) (told_of query ends)))
+  shown_given_unnamed =
+      by_straight (λ ends. ends.unnamed_below ≡ true → (tail : Labels) → IsUnnamedTail config query tail
+      → ShowsThese (with_lists (following config rewrites deps.least) deps.least deps.greatest) (query ++ tail) (told_of query ends))
       (λ ends straight below tail is.
-      shows_nothing (following config rewrites deps.least) deps most (query ++ tail) (nothing_below ends)
-      (in_least config deps rewrites most (query ++ tail) (nothing_below ends) (straight (query ++ tail) (nothing_below ends) (inr (inr (below, (tail, is, refl), refl))))))
+      subst (ShowsThese (with_lists (following config rewrites deps.least) deps.least deps.greatest) (query ++ tail))
+      (same_faults query tail ends.faulty.items (are_above ends (straight query ends (inl (refl, refl)))))
+      (shows_these (following config rewrites deps.least) deps most (query ++ tail) (nothing_below ends)
+      (in_least config deps rewrites most (query ++ tail) (nothing_below ends) (straight (query ++ tail) (nothing_below ends) (inr (inr (below, (tail, is, refl), refl)))))))
 
   -- a query with known ends is bounded
   pub bounded_given : IfOk given (λ found. IfSome found (HoldsOfEachTold config query (GoesStraightIn config deps rewrites most)))

@@ -11,7 +11,11 @@ pub mod GoingOn
 pub mod Replies
 pub mod SameOutcomes
 pub mod StatesBehind
-pub mod ShowsNothing
+pub mod ShownFaults
+pub mod ShowsThese
+pub mod ToldFlags
+pub mod BranchShown
+pub mod SameFaulty
 pub mod StraightSearch
 pub mod StraightWalks
 pub mod Unhosted

@@ -1,5 +1,5 @@
 -- What a search passes for a query it passes for the names below it of which ends are told.
-use Rattle.std.proofs.Common.{◌≡◌, ℕ, ◌+◌, ◌<◌, ◌++◌, Bool, true, List, length, get_or, IfSome, Bor, refl, sym, ap, ◌∙◌, subst, inl, inr, true≢false}
+use Rattle.std.proofs.Common.{◌≡◌, Vec, Global, ℕ, ◌+◌, ◌<◌, ◌++◌, Bool, true, List, length, take, get_or, IfSome, Bor, refl, sym, ap, ◌∙◌, subst, inl, inr, true≢false}
 use Rattle.std.specs.List.{slice_get}
 use Rattle.std.proofs.lemmas.Bool.{and_parts}
 use Rattle.std.proofs.lemmas.Option.{IfSome_then}
@@ -10,10 +10,11 @@ use Rattle.net_model.specs.Zone.{ns_names}
 use Rattle.net_model.specs.declared.config.Config.{Config}
 use Rattle.zone_tree.specs.Tree.{ZoneTree, name_of}
 use Rattle.zone_lookup.specs.Reply.{IsReply}
-use Rattle.straight_walks.specs.Searching.{AllEndOutside, AreEndsFor, AreReferrals, EndsOutside, HavePassed, HasPassed, IsAnswered, IsReferral, PassesServer, cut_to, failing, nothing_below, nothing_there, unanswered}
+use Rattle.straight_walks.specs.Searching.{AllEndOutside, AreEndsFor, AreReferrals, EndsOutside, HavePassed, HasPassed, IsAnswered, IsReferral, Known, PassesServer, cut_to, failing, no_flags, nothing_below, nothing_there, unanswered}
 use Rattle.straight_walks.specs.Regions.{IsSearchBelow}
 use Rattle.straight_walks.specs.Straight.{NoOriginBetween}
 use Rattle.straight_walks.specs.declared.ends.StraightEnds.{StraightEnds}
+use Rattle.straight_walks.specs.declared.faulty.Faulty.{Faulty}
 use Rattle.straight_walks.specs.declared.name_server.Referral.TheVariants as referral
 use Rattle.straight_walks.specs.declared.queue.Queued.{Queued}
 use Rattle.straight_walks.specs.declared.searching.Search.{Search}
@@ -23,7 +24,7 @@ use Rattle.straight_walks.proofs.GoingOn.{all_that_end}
 use Rattle.straight_walks.proofs.OtherNames.{refers_for}
 use Rattle.straight_walks.proofs.RegionSearch.{refers_below}
 use Rattle.straight_walks.proofs.Replies.{refers_held}
-use Rattle.straight_walks.proofs.StraightSearch.{answer_passes, one_passed, outside_passes, referral_passed, referral_passes}
+use Rattle.straight_walks.proofs.StraightSearch.{answer_passes, one_passed, outside_passes, referral_passed, referral_passes, same_told}
 use Rattle.straight_walks.proofs.UnnamedBelow.{none_between, nothing_so, put_below}
 
 module _ (config : Config) (deps : Deps) (query : Labels) where
@@ -41,12 +42,18 @@ module _ (config : Config) (deps : Deps) (query : Labels) where
   same_rewrites ends name found (inr (inr unnamed)) = ap (λ (e : StraightEnds). e.rewrites) unnamed.2
 
   -- the states that a search for an origin has passed are passed for each name of which the ends tell
-  pub begun : (searched : Search) → IsSearchBelow config deps query searched
-      → HavePassed config deps query searched.queue.items searched.passed (unanswered searched.fails)
-  begun searched is name found of =
-      subst (HasPassed config deps name searched.queue.items searched.passed) (sym (same of)) (is name (between (unanswered searched.fails) name found of))
+  pub begun : (searched : Search) (faulty : Vec Faulty Global) → faulty.items ≡ searched.faulty.items → IsSearchBelow config deps query searched
+      → HavePassed config deps query searched.queue.items searched.passed (unanswered searched.fails faulty)
+  begun searched faulty told is name found of =
+      let passed = is name (between (unanswered searched.fails faulty) name found of) in
+      subst (HasPassed config deps name searched.queue.items searched.passed) (sym (same of))
+      (record {
+        within = passed.within;
+        walked =
+            same_told config deps name searched.queue.items (take searched.passed searched.queue.items) (unanswered searched.fails searched.faulty) faulty told passed.walked;
+      })
     where
-      same : AreEndsFor config query (unanswered searched.fails) name found → found ≡ unanswered searched.fails
+      same : AreEndsFor config query (unanswered searched.fails faulty) name found → found ≡ unanswered searched.fails faulty
       same (inl itself) = itself.1
       same (inr (inl below)) = below.2
       same (inr (inr unnamed)) = unnamed.2
@@ -58,23 +65,36 @@ module _ (config : Config) (deps : Deps) (query : Labels) where
   PassesFor server queue before after name found =
       (found_before : StraightEnds) × AreEndsFor config query before name found_before × PassesServer config deps name server queue found_before queue found
 
-  -- the ends with another failure
-  abbrev with_fails : StraightEnds → Bool → StraightEnds
-  with_fails ends fails = record ends { fails = fails }
+  -- the ends with another failure and other referrals that show faults
+  abbrev with_known : StraightEnds → Bool → Vec Faulty Global → StraightEnds
+  with_known ends fails faulty = record ends { fails = fails; faulty = faulty }
 
-  -- those of which ends are told whatever fails are the same
-  before_failing : (ends : StraightEnds) (fails : Bool) (name : Labels) (found : StraightEnds) → AreEndsFor config query (with_fails ends fails) name found
-      → (found_before : StraightEnds) × AreEndsFor config query ends name found_before × (found ≡ with_fails found_before fails) × (found_before.fails ≡ ends.fails)
-  before_failing ends fails name found (inl itself) = (ends, inl (itself.0, refl), itself.1, refl)
-  before_failing ends fails name found (inr (inl below)) = (ends, inr (inl (below.0, below.1, refl)), below.2, refl)
-  before_failing ends fails name found (inr (inr unnamed)) = (nothing_below ends, inr (inr (unnamed.0, unnamed.1, refl)), unnamed.2, refl)
+  -- those of which ends are told where walks fail besides are the same
+  before_failing : (ends : StraightEnds) (name : Labels) (found : StraightEnds) → AreEndsFor config query (failing ends) name found
+      → (found_before : StraightEnds) × AreEndsFor config query ends name found_before × (found ≡ failing found_before)
+  before_failing ends name found (inl itself) = (ends, inl (itself.0, refl), itself.1)
+  before_failing ends name found (inr (inl below)) = (ends, inr (inl (below.0, below.1, refl)), below.2)
+  before_failing ends name found (inr (inr unnamed)) = (nothing_below ends, inr (inr (unnamed.0, unnamed.1, refl)), unnamed.2)
+
+  -- what is known of the ends with these states queued
+  abbrev known_of : List Queued → StraightEnds → Known
+  known_of queue ends = record { queue = queue; fails = ends.fails; faulty = ends.faulty.items }
+
+  -- and so are they whatever is known
+  before_known : (ends : StraightEnds) (fails : Bool) (faulty : Vec Faulty Global) (name : Labels) (found : StraightEnds)
+      → AreEndsFor config query (with_known ends fails faulty) name found
+      → (found_before : StraightEnds) × AreEndsFor config query ends name found_before × (found ≡ with_known found_before fails faulty)
+      × ((queue : List Queued) → known_of queue found_before ≡ known_of queue ends)
+  before_known ends fails faulty name found (inl itself) = (ends, inl (itself.0, refl), itself.1, λ queue. refl)
+  before_known ends fails faulty name found (inr (inl below)) = (ends, inr (inl (below.0, below.1, refl)), below.2, λ queue. refl)
+  before_known ends fails faulty name found (inr (inr unnamed)) = (nothing_below ends, inr (inr (unnamed.0, unnamed.1, refl)), unnamed.2, λ queue. refl)
 
   module _ (server : Labels) (queue : List Queued) (ends : StraightEnds) where
     -- for each name of which the ends tell, walks pass a server without a zone for the query
     pub outside_for : IsReply config server query reply.Outside → (name : Labels) (found : StraightEnds) → AreEndsFor config query (failing ends) name found
         → PassesFor server queue ends (failing ends) name found
     outside_for so name found of =
-        let (found_before, of_before, is, fails) = before_failing ends true name found of in (
+        let (found_before, of_before, is) = before_failing ends name found of in (
           found_before,
           of_before,
           subst (PassesServer config deps name server queue found_before queue) (sym is)
@@ -86,16 +106,16 @@ module _ (config : Config) (deps : Deps) (query : Labels) where
     pub ending_for : (tree : Bor ZoneTree) (cut : ℕ) → IsReply config server query (reply.Refers tree cut) → AllEndOutside config tree.now cut
         → (name : Labels) (found : StraightEnds) → AreEndsFor config query (failing ends) name found → PassesFor server queue ends (failing ends) name found
     ending_for tree cut so all name found of =
-        let (found_before, of_before, is, fails) = before_failing ends true name found of in (
+        let (found_before, of_before, is) = before_failing ends name found of in (
           found_before,
           of_before,
           subst (PassesServer config deps name server queue found_before queue) (sym is)
-              (referral_passes config deps name server queue found_before tree cut queue true
+              (referral_passes config deps name server queue found_before tree cut queue true found_before.faulty
               (refers_below config deps query server tree cut so name (between ends name found_before of_before))
               (all_that_end config deps name server tree.now.zone (name_of tree.now cut) (ns_names tree.now.zone (name_of tree.now cut))
-              (all_so (EndsOutside config tree.now cut) (λ (ns : Labels). IsReferral config deps name (cut_to server tree.now.zone (name_of tree.now cut) ns) referral.Ends)
+              (all_so (EndsOutside config tree.now cut) (λ (ns : Labels). IsReferral config deps name (cut_to server tree.now.zone (name_of tree.now cut) ns) (referral.Ends no_flags))
               (ns_names tree.now.zone (name_of tree.now cut)) (λ ns end. end deps name server (refers_held config query server tree cut so)) all.0)
-              all.1 queue found_before.fails)),
+              all.1 (known_of queue found_before))),
         )
 
     -- for the query, and for it with an unnamed tail if the server has nothing there, walks pass a server that answers
@@ -130,19 +150,22 @@ module _ (config : Config) (deps : Deps) (query : Labels) where
       let (found_before, of_before, passes) = one name found of in one_passed config deps name queue queue at found_before found item within is (so name found_before of_before) passes
 
   -- for each name of which the ends tell, one queued state more is passed if its server refers the query
-  pub referral_passed_for : (queue after : List Queued) (at : ℕ) (ends : StraightEnds) (fails : Bool) (tree : Bor ZoneTree) (cut : ℕ) (item : Queued)
+  pub referral_passed_for : (queue after : List Queued) (at : ℕ) (ends : StraightEnds) (fails : Bool) (faulty : Vec Faulty Global) (tree : Bor ZoneTree) (cut : ℕ) (item : Queued)
       → at < length queue → item ≡ get_or queue at item
       → IfSome (slice_get queue at) (λ one. IsReply config one.server.now query (reply.Refers tree cut)) → HavePassed config deps query queue at ends
-      → AreReferrals config deps query item.server.now tree.now.zone (name_of tree.now cut) (ns_names tree.now.zone (name_of tree.now cut)) queue ends.fails after fails
-      → HavePassed config deps query after (at + 1) (record ends { fails = fails })
-  referral_passed_for queue after at ends fails tree cut item within is refers so on name found of =
-      let (found_before, of_before, same, failed) = before_failing ends fails name found of in
+      → AreReferrals config deps query item.server.now tree.now.zone (name_of tree.now cut) (ns_names tree.now.zone (name_of tree.now cut))
+      (known_of queue ends) (record { queue = after; fails = fails; faulty = faulty.items })
+      → HavePassed config deps query after (at + 1) (record ends { fails = fails; faulty = faulty })
+  referral_passed_for queue after at ends fails faulty tree cut item within is refers so on name found of =
+      let (found_before, of_before, same, known) = before_known ends fails faulty name found of in
       let none = between ends name found_before of_before in
+      let cut_name = name_of tree.now cut in
+      let servers = ns_names tree.now.zone cut_name in
+      let known_after : Known = record { queue = after; fails = fails; faulty = faulty.items } in
       subst (HasPassed config deps name after (at + 1)) (sym same)
-      (referral_passed config deps name queue after at found_before fails tree cut item within is
+      (referral_passed config deps name queue after at found_before fails faulty tree cut item within is
       (IfSome_then (slice_get queue at) refers (λ one refers_it. refers_below config deps query one.server.now tree cut refers_it name none))
       (so name found_before of_before)
-      (refers_for config deps query name (same_nearest config query name none) item.server.now tree.now.zone (name_of tree.now cut) (ns_names tree.now.zone (name_of tree.now cut))
-      queue found_before.fails after fails
-      (subst (λ (failing_before : Bool). AreReferrals config deps query item.server.now tree.now.zone (name_of tree.now cut) (ns_names tree.now.zone (name_of tree.now cut)) queue failing_before after fails)
-      (sym failed) on)))
+      (subst (λ (known_before : Known). AreReferrals config deps name item.server.now tree.now.zone cut_name servers known_before known_after) (sym (known queue))
+      (refers_for config deps query name (same_nearest config query name none) item.server.now tree.now.zone cut_name servers none.above (known_of queue ends) known_after
+      (so query ends (inl (refl, refl))).walked.above on)))

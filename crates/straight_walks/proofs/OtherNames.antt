@@ -1,14 +1,16 @@
 -- Referrals are the same for two names whose nearest zones are.
-use Rattle.std.proofs.Common.{◌≡◌, ℕ, Bool, true, false, not, cond, List, [], ◌∷◌, map, Option, None, Some, refl, sym, ap, ◌∙◌, subst, inl, inr}
+use Rattle.std.proofs.Common.{◌≡◌, ℕ, ◌≤◌, Bool, true, false, not, cond, List, [], ◌∷◌, length, map, Option, None, Some, refl, sym, ap, ◌∙◌, subst, inl, inr}
 use Rattle.std.specs.Prelude.{◌⊎◌, Contains, option_map}
 use Rattle.std.specs.List.{AllByRecursion}
 use Rattle.dns_data.specs.Name.{Labels, is_prefix}
 use Rattle.dns_data.proofs.Membership.{from_map, map_has}
+use Rattle.dns_data.proofs.Names.{all_append}
 use Rattle.net_model.specs.declared.deps.Deps.{Deps}
 use Rattle.net_model.specs.Nearest.{is_configured, nearest_of}
 use Rattle.net_model.specs.Step.{Setting, Branch, Go, End, delegated, may_follow, referred}
 use Rattle.net_model.specs.declared.config.Config.{Config}
 use Rattle.net_model.specs.declared.config.Zone.{Zone}
+use Rattle.net_model.specs.declared.fault.Fault.{Fault}
 use Rattle.net_model.specs.declared.place.Cut.{Cut}
 use Rattle.net_model.specs.declared.walk.Hop.{Hop}
 use Rattle.net_model.specs.declared.walk.Hop.TheVariants.{Refer}
@@ -16,9 +18,12 @@ use Rattle.net_model.specs.declared.walk.Leaf.{Leaf}
 use Rattle.net_model.specs.declared.walk.Leaf.TheVariants as leaves
 use Rattle.net_model.specs.declared.walk.State.{State}
 use Rattle.walk_laws.specs.Outcome.{outcome_of}
-use Rattle.straight_walks.specs.Searching.{AreReferrals, IsSettingOf, cut_to, state_at, queued_state, to_servers}
+use Rattle.straight_walks.specs.Faulty.{AreAbove, BranchShows, branch_hop, faults_at}
+use Rattle.straight_walks.specs.Searching.{AreReferrals, IsSettingOf, Known, cut_to, state_at, queued_state, to_servers}
 use Rattle.straight_walks.specs.Straight.{FailsOrGoes}
+use Rattle.straight_walks.specs.declared.faulty.Faulty.{Faulty}
 use Rattle.straight_walks.specs.declared.queue.Queued.{Queued}
+use Rattle.straight_walks.proofs.SameFaulty.{above_below, same_faults_below}
 
 -- a state, and a branch, for another name
 abbrev for_name : Labels → State → State
@@ -61,21 +66,32 @@ module _ (config : Config) (deps : Deps) (one other : Labels) (same : (server : 
   queued_for item = state_for item.server.now item.cut
 
   -- the branch fails, or goes on to one of the states of a name
-  abbrev Goes : Setting → Bool → List Queued → Labels → Branch → Type 0
-  Goes setting fails queue name branch = FailsOrGoes setting.config deps fails (map (queued_state config name) queue) branch
+  abbrev Goes : Setting → List Fault → Bool → List Queued → Labels → Branch → Type 0
+  Goes setting told fails queue name branch = FailsOrGoes setting.config deps told fails (map (queued_state config name) queue) branch
 
-  goes_for : (setting : Setting) (fails : Bool) (queue : List Queued) (branch : Branch) → Goes setting fails queue one branch → Goes setting fails queue other (branch_for other branch)
-  goes_for setting fails queue branch (inl (failing, inl ends)) = inl (failing, inl (ap (branch_for other) ends))
-  goes_for setting fails queue branch (inl (failing, inr (cut, sound, ends))) = inl (failing, inr (cut, sound, ap (branch_for other) ends))
-  goes_for setting fails queue branch (inr (cut, to, sound, goes, has)) =
+  goes_for : (setting : Setting) (told : List Fault) (fails : Bool) (queue : List Queued) (branch : Branch) → Goes setting told fails queue one branch
+      → Goes setting told fails queue other (branch_for other branch)
+  goes_for setting told fails queue branch (inl (failing, inl ends)) = inl (failing, inl (ap (branch_for other) ends))
+  goes_for setting told fails queue branch (inl (failing, inr (cut, is, inl unhosted))) = inl (failing, inr (cut, is, inl (ap (branch_for other) unhosted)))
+  goes_for setting told fails queue branch (inl (failing, inr (cut, is, inr (among, lame)))) = inl (failing, inr (cut, is, inr (among, ap (branch_for other) lame)))
+  goes_for setting told fails queue branch (inr (cut, to, is, goes, has)) =
       let from = from_map (queued_state config one) queue to has in
       inr (
         cut,
         for_name other to,
-        sound,
+        is,
         ap (branch_for other) goes,
         subst (Contains (map (queued_state config other) queue)) (queued_for from.0 ∙ ap (for_name other) from.2) (map_has (queued_state config other) queue from.0 from.1),
       )
+
+  -- a branch has the same hop for another name, and ends alike
+  hop_for : (branch : Branch) → branch_hop (branch_for other branch) ≡ branch_hop branch
+  hop_for (Go hop to) = refl
+  hop_for (End hop leaf) = refl
+
+  shows_for : (setting : Setting) (branch : Branch) (fault : Fault) → BranchShows setting.config deps branch fault → BranchShows setting.config deps (branch_for other branch) fault
+  shows_for setting branch fault (cut, hop, inl among) = (cut, hop_for branch ∙ hop, inl among)
+  shows_for setting branch fault (cut, hop, inr (is, ends)) = (cut, hop_for branch ∙ hop, inr (is, ap (branch_for other) ends))
 
   -- a zone cut's branches
   module _ (server : Labels) (zone : Zone) (cut : Labels) (names : List Labels) where
@@ -104,28 +120,42 @@ module _ (config : Config) (deps : Deps) (one other : Labels) (same : (server : 
         subst (λ (all : List Branch). Contains all (branch_for other branch)) (sym (branches_for setting above of))
         (map_has (branch_for other) (branches one setting above) branch has)
 
-    all_for : (setting : Setting) (fails : Bool) (queue : List Queued) (all : List Branch) → AllByRecursion (Goes setting fails queue one) all
-        → AllByRecursion (Goes setting fails queue other) (map (branch_for other) all)
-    all_for setting fails queue [] each = tt
-    all_for setting fails queue (branch ∷ rest) each = (goes_for setting fails queue branch each.0, all_for setting fails queue rest each.1)
+    all_for : (setting : Setting) (told : List Fault) (fails : Bool) (queue : List Queued) (all : List Branch) → AllByRecursion (Goes setting told fails queue one) all
+        → AllByRecursion (Goes setting told fails queue other) (map (branch_for other) all)
+    all_for setting told fails queue [] each = tt
+    all_for setting told fails queue (branch ∷ rest) each = (goes_for setting told fails queue branch each.0, all_for setting told fails queue rest each.1)
 
-    -- referrals of one name are referrals of another for which each server has the same nearest zone
-    pub refers_for : (before : List Queued) (fails_before : Bool) (after : List Queued) (fails : Bool)
-        → AreReferrals config deps one server zone cut names before fails_before after fails → AreReferrals config deps other server zone cut names before fails_before after fails
-    refers_for before fails_before after fails so =
+    -- referrals of one name are referrals of each name below it for which each server has the same nearest zone, if the
+    -- zone cuts are at or above the one name that are known to show faults
+    pub refers_for : is_prefix one other ≡ true → (before after : Known) → AreAbove one before.faulty
+        → AreReferrals config deps one server zone cut names before after → AreReferrals config deps other server zone cut names before after
+    refers_for below before after above so =
         record {
           extends = so.extends;
           still = so.still;
+          keeps = (so.keeps.0, so.keeps.1, above_below one other below so.keeps.0 so.keeps.2);
           each = λ setting above of.
-              subst (AllByRecursion (Goes setting fails after other)) (sym (branches_for setting above of))
-              (all_for setting fails after (branches one setting above) (so.each setting above of));
+              subst (λ (told : List Fault). AllByRecursion (Goes setting told after.fails after.queue other) (branches other setting above)) (sym same_after)
+              (subst (AllByRecursion (Goes setting (faults_at one after.faulty) after.fails after.queue other)) (sym (branches_for setting above of))
+              (all_for setting (faults_at one after.faulty) after.fails after.queue (branches one setting above) (so.each setting above of)));
           leads = λ item has. leads item (so.leads item has);
           told = λ is. told (so.told is);
+          shown = λ fault has. shown fault (so.shown fault (subst (λ (all : List Fault). Contains all fault) same_after has));
         }
       where
-        leads : (item : Queued) → Contains before item ⊎ ((setting : Setting) (above : ℕ) → IsSettingOf config deps setting
+        same_before : faults_at other before.faulty ≡ faults_at one before.faulty
+        same_before = same_faults_below one other below before.faulty above
+
+        above_after : AreAbove one after.faulty
+        above_after =
+            subst (AreAbove one) (sym so.keeps.1) (all_append (λ (faulty : Faulty). faulty.cut ≤ length one) before.faulty so.keeps.0 above so.keeps.2)
+
+        same_after : faults_at other after.faulty ≡ faults_at one after.faulty
+        same_after = same_faults_below one other below after.faulty above_after
+
+        leads : (item : Queued) → Contains before.queue item ⊎ ((setting : Setting) (above : ℕ) → IsSettingOf config deps setting
             → (hop : Hop) × Contains (branches one setting above) (Go hop (queued_state config one item)))
-            → Contains before item ⊎ ((setting : Setting) (above : ℕ) → IsSettingOf config deps setting
+            → Contains before.queue item ⊎ ((setting : Setting) (above : ℕ) → IsSettingOf config deps setting
             → (hop : Hop) × Contains (branches other setting above) (Go hop (queued_state config other item)))
         leads item (inl early) = inl early
         leads item (inr goes) = inr (λ setting above of.
@@ -134,10 +164,19 @@ module _ (config : Config) (deps : Deps) (one other : Labels) (same : (server : 
               subst (λ (to : State). Contains (branches other setting above) (Go hop to)) (sym (queued_for item)) (among_for setting above of (Go hop (queued_state config one item)) has),
             ))
 
-        told : (fails_before ≡ true) ⊎ ((setting : Setting) (above : ℕ) → IsSettingOf config deps setting
+        told : (before.fails ≡ true) ⊎ ((setting : Setting) (above : ℕ) → IsSettingOf config deps setting
             → (hop : Option Hop) × (leaf : Leaf) × Contains (branches one setting above) (End hop leaf) × (outcome_of leaf ≡ None))
-            → (fails_before ≡ true) ⊎ ((setting : Setting) (above : ℕ) → IsSettingOf config deps setting
+            → (before.fails ≡ true) ⊎ ((setting : Setting) (above : ℕ) → IsSettingOf config deps setting
             → (hop : Option Hop) × (leaf : Leaf) × Contains (branches other setting above) (End hop leaf) × (outcome_of leaf ≡ None))
         told (inl early) = inl early
         told (inr end) = inr (λ setting above of.
             let (hop, leaf, has, none) = end setting above of in (hop, leaf, among_for setting above of (End hop leaf) has, none))
+
+        shown : (fault : Fault) → Contains (faults_at one before.faulty) fault ⊎ ((setting : Setting) (above : ℕ) → IsSettingOf config deps setting
+            → (branch : Branch) × Contains (branches one setting above) branch × BranchShows setting.config deps branch fault)
+            → Contains (faults_at other before.faulty) fault ⊎ ((setting : Setting) (above : ℕ) → IsSettingOf config deps setting
+            → (branch : Branch) × Contains (branches other setting above) branch × BranchShows setting.config deps branch fault)
+        shown fault (inl early) = inl (subst (λ (all : List Fault). Contains all fault) (sym same_before) early)
+        shown fault (inr by) = inr (λ setting above of.
+            let (branch, has, is) = by setting above of in
+            (branch_for other branch, among_for setting above of branch has, shows_for setting branch fault is))

@@ -1,5 +1,5 @@
 -- The search for all names whose nearest origin is the same: it passes a state where it does so for the origin.
-use Rattle.std.proofs.Common.{◌≡◌, ℕ, ◌+◌, ◌<◌, ◌≤◌, Bool, true, List, [], ◌∷◌, ◌++◌, length, map, take, take_all, get_or, Bor, sym, ap, ◌∙◌, subst, inl, inr, arith}
+use Rattle.std.proofs.Common.{◌≡◌, Vec, Global, ℕ, ◌+◌, ◌<◌, ◌≤◌, Bool, true, List, [], ◌∷◌, ◌++◌, length, map, take, take_all, get_or, Bor, sym, ap, ◌∙◌, subst, inl, inr, arith}
 use Rattle.std.specs.Prelude.{◌⊎◌, Contains}
 use Rattle.std.proofs.lemmas.List.{append-nil, length-append, take_more, take-append-le}
 use Rattle.std.proofs.lemmas.List.Elements.{Contains-append_cases, Contains-append_left, Contains-append_right, Contains-get_or}
@@ -14,25 +14,28 @@ use Rattle.net_model.specs.declared.walk.State.{State}
 use Rattle.zone_lookup.proofs.Glue.{further_below}
 use Rattle.zone_tree.specs.Tree.{ZoneTree, name_of}
 use Rattle.zone_lookup.specs.Reply.{IsReply}
+use Rattle.straight_walks.specs.Faulty.{AreAbove}
 use Rattle.straight_walks.specs.Searching.{AreReferrals, Extends, HasWalked, PassesServer, queued_state, unanswered}
 use Rattle.straight_walks.specs.Regions.{IsAnsweringMore, IsLookedAt, IsPassedMore, IsSearchBelow}
 use Rattle.straight_walks.specs.Straight.{NoOriginBetween}
+use Rattle.straight_walks.specs.declared.ends.StraightEnds.{StraightEnds}
+use Rattle.straight_walks.specs.declared.faulty.Faulty.{Faulty}
 use Rattle.straight_walks.specs.declared.queue.Queued.{Queued}
 use Rattle.straight_walks.specs.declared.region.RegionSearch.{RegionSearch}
 use Rattle.straight_walks.specs.declared.searching.Search.{Search}
 use Rattle.zone_lookup.specs.declared.reply.Reply.TheVariants as reply
-use Rattle.straight_walks.proofs.BelowOrigins.{cut_stays, same_nearest}
+use Rattle.straight_walks.proofs.BelowOrigins.{cut_stays, none_between_itself, same_nearest}
 use Rattle.straight_walks.proofs.OtherNames.{refers_for}
-use Rattle.straight_walks.proofs.StraightSearch.{one_walked, outside_passes, referral_passes, walked_among}
+use Rattle.straight_walks.proofs.StraightSearch.{one_walked, outside_passes, referral_passes, same_told, walked_among}
 
 module _ (config : Config) (deps : Deps) (origin : Labels) where
   -- ---- one server
 
   -- walks for each name below the origin with no other between pass a server that has no zone for the origin
-  pub outside_past : (server : Labels) (queue : List Queued) (fails : Bool) → IsReply config server origin reply.Outside → (query : Labels) → NoOriginBetween config origin query
-      → PassesServer config deps query server queue (unanswered fails) queue (unanswered true)
-  outside_past server queue fails so query nearest =
-      outside_passes config deps query server queue (unanswered fails) (same_nearest config origin query nearest server ∙ so)
+  pub outside_past : (server : Labels) (queue : List Queued) (fails : Bool) (faulty : Vec Faulty Global) → IsReply config server origin reply.Outside
+      → (query : Labels) → NoOriginBetween config origin query → PassesServer config deps query server queue (unanswered fails faulty) queue (unanswered true faulty)
+  outside_past server queue fails faulty so query nearest =
+      outside_passes config deps query server queue (unanswered fails faulty) (same_nearest config origin query nearest server ∙ so)
 
   -- a server whose zone refers the origin refers each name below it, with no other origin between, by the same zone cut
   pub refers_below : (server : Labels) (tree : Bor ZoneTree) (cut : ℕ) → IsReply config server origin (reply.Refers tree cut)
@@ -50,14 +53,16 @@ module _ (config : Config) (deps : Deps) (origin : Labels) where
       )
 
   -- walks for each name below the origin with no other between pass a server whose zone refers the origin
-  pub referral_past : (server : Labels) (queue : List Queued) (fails_before : Bool) (after : List Queued) (fails : Bool) (tree : Bor ZoneTree) (cut : ℕ)
-      → IsReply config server origin (reply.Refers tree cut)
-      → AreReferrals config deps origin server tree.now.zone (name_of tree.now cut) (ns_names tree.now.zone (name_of tree.now cut)) queue fails_before after fails
-      → (query : Labels) → NoOriginBetween config origin query → PassesServer config deps query server queue (unanswered fails_before) after (unanswered fails)
-  referral_past server queue fails_before after fails tree cut so on query nearest =
-      referral_passes config deps query server queue (unanswered fails_before) tree cut after fails (refers_below server tree cut so query nearest)
+  pub referral_past : (server : Labels) (queue : List Queued) (fails_before : Bool) (before : Vec Faulty Global) (after : List Queued) (fails : Bool) (faulty : Vec Faulty Global)
+      (tree : Bor ZoneTree) (cut : ℕ) → IsReply config server origin (reply.Refers tree cut)
+      → AreReferrals config deps origin server tree.now.zone (name_of tree.now cut) (ns_names tree.now.zone (name_of tree.now cut))
+      (record { queue = queue; fails = fails_before; faulty = before.items }) (record { queue = after; fails = fails; faulty = faulty.items })
+      → AreAbove origin before.items → (query : Labels) → NoOriginBetween config origin query
+      → PassesServer config deps query server queue (unanswered fails_before before) after (unanswered fails faulty)
+  referral_past server queue fails_before before after fails faulty tree cut so on above query nearest =
+      referral_passes config deps query server queue (unanswered fails_before before) tree cut after fails faulty (refers_below server tree cut so query nearest)
       (refers_for config deps origin query (same_nearest config origin query nearest) server tree.now.zone (name_of tree.now cut) (ns_names tree.now.zone (name_of tree.now cut))
-      queue fails_before after fails on)
+      nearest.above (record { queue = queue; fails = fails_before; faulty = before.items }) (record { queue = after; fails = fails; faulty = faulty.items }) above on)
 
   -- ---- those that are either out
 
@@ -65,21 +70,21 @@ module _ (config : Config) (deps : Deps) (origin : Labels) where
   -- which are all queued, and for each of the names the search has walked over those that are passed
   pub record AreLookedAt (at : ℕ) (search : RegionSearch) : Type 0 where
     pub within : at ≤ length search.queue
-    pub walked : (query : Labels) → NoOriginBetween config origin query → HasWalked config deps query search.queue search.passed.items (unanswered search.fails)
+    pub walked : (query : Labels) → NoOriginBetween config origin query → HasWalked config deps query search.queue search.passed.items (unanswered search.fails search.faulty)
     pub either : (one : Queued) → Contains (take at search.queue) one → Contains (search.passed.items ++ search.answering.items) one
     pub only : (one : Queued) → Contains (search.passed.items ++ search.answering.items) one → Contains search.queue one
 
   -- where a search has begun no state is looked at
   pub none_looked_at : (begun : Search) → IsSearchBelow config deps origin begun → begun.passed ≡ 0 → (search : RegionSearch) → search.queue ≡ begun.queue.items
-      → search.passed.items ≡ [] → search.answering.items ≡ [] → search.fails ≡ begun.fails → AreLookedAt 0 search
-  none_looked_at begun is first search queue_is passed_is answering_is fails_is =
+      → search.passed.items ≡ [] → search.answering.items ≡ [] → search.fails ≡ begun.fails → search.faulty ≡ begun.faulty → AreLookedAt 0 search
+  none_looked_at begun is first search queue_is passed_is answering_is fails_is faulty_is =
       record {
         within = omega arith;
         walked = λ query nearest.
-            subst (λ (passed : List Queued). HasWalked config deps query search.queue passed (unanswered search.fails)) (sym passed_is)
-            (subst (λ (fails : Bool). HasWalked config deps query search.queue [] (unanswered fails)) (sym fails_is)
-            (subst (λ (queue : List Queued). HasWalked config deps query queue [] (unanswered begun.fails)) (sym queue_is)
-            (subst (λ (n : ℕ). HasWalked config deps query begun.queue.items (take n begun.queue.items) (unanswered begun.fails)) first (is query nearest).walked)));
+            subst (λ (passed : List Queued). HasWalked config deps query search.queue passed (unanswered search.fails search.faulty)) (sym passed_is)
+            (subst (λ (ends : StraightEnds). HasWalked config deps query search.queue [] ends) (λ i. unanswered (sym fails_is i) (sym faulty_is i))
+            (subst (λ (queue : List Queued). HasWalked config deps query queue [] (unanswered begun.fails begun.faulty)) (sym queue_is)
+            (subst (λ (n : ℕ). HasWalked config deps query begun.queue.items (take n begun.queue.items) (unanswered begun.fails begun.faulty)) first (is query nearest).walked)));
         either = λ one has. absurd (none_in_nil one has);
         only = λ one has. absurd (none_in_nil one
             (subst (λ (all : List Queued). Contains all one) (ap (λ (p : List Queued). p ++ search.answering.items) passed_is ∙ answering_is) has));
@@ -168,9 +173,9 @@ module _ (config : Config) (deps : Deps) (origin : Labels) where
         record {
           within = in_reach more.extends;
           walked = λ query nearest.
-              subst (λ (passed : List Queued). HasWalked config deps query after.queue passed (unanswered after.fails)) (sym more.passed)
-              (one_walked config deps query before.queue after.queue before.passed.items (unanswered before.fails) (unanswered after.fails) item queued
-              (so.walked query nearest) (more.passes query nearest));
+              subst (λ (passed : List Queued). HasWalked config deps query after.queue passed (unanswered after.fails after.faulty)) (sym more.passed)
+              (one_walked config deps query before.queue after.queue before.passed.items (unanswered before.fails before.faulty) (unanswered after.fails after.faulty) item queued
+              (so.walked query nearest) (more.passes (so.walked origin (none_between_itself config origin)).above query nearest));
           either = λ other has.
               subst (λ (all : List Queued). Contains all other) (sym both) (more_passed before.passed.items before.answering.items item other (so_far more.extends other has));
           only = λ other has.
@@ -187,9 +192,10 @@ module _ (config : Config) (deps : Deps) (origin : Labels) where
         record {
           within = in_reach same_queue;
           walked = λ query nearest.
-              subst (λ (queue : List Queued). HasWalked config deps query queue after.passed.items (unanswered after.fails)) (sym more.queue)
-              (subst (λ (passed : List Queued). HasWalked config deps query before.queue passed (unanswered after.fails)) (sym more.passed)
-              (subst (λ (fails : Bool). HasWalked config deps query before.queue before.passed.items (unanswered fails)) (sym more.fails) (so.walked query nearest)));
+              subst (λ (queue : List Queued). HasWalked config deps query queue after.passed.items (unanswered after.fails after.faulty)) (sym more.queue)
+              (subst (λ (passed : List Queued). HasWalked config deps query before.queue passed (unanswered after.fails after.faulty)) (sym more.passed)
+              (subst (λ (ends : StraightEnds). HasWalked config deps query before.queue before.passed.items ends) (λ i. unanswered (sym more.fails i) (sym more.faulty i))
+              (so.walked query nearest)));
           either = λ other has.
               subst (λ (all : List Queued). Contains all other) (sym both) (more_answering before.passed.items before.answering.items item other (so_far same_queue other has));
           only = λ other has.
@@ -211,14 +217,15 @@ module _ (config : Config) (deps : Deps) (origin : Labels) where
   -- where all are looked at the search is one for each of the names
   pub all_looked_at : (search : RegionSearch) (at : ℕ) → AreLookedAt at search → length search.queue ≤ at
       → (searched : Search) → searched.queue.items ≡ search.passed.items ++ search.answering.items → searched.passed ≡ length search.passed.items → searched.fails ≡ search.fails
-      → IsSearchBelow config deps origin searched
-  all_looked_at search at so all searched queue_is passed_is fails_is query nearest =
+      → searched.faulty.items ≡ search.faulty.items → IsSearchBelow config deps origin searched
+  all_looked_at search at so all searched queue_is passed_is fails_is faulty_is query nearest =
       record {
         within = omega (arith, ap (λ (l : List Queued). length l) queue_is, length-append search.passed.items search.answering.items, passed_is);
         walked =
-            subst (λ (first : List Queued). HasWalked config deps query searched.queue.items first (unanswered searched.fails)) (sym first_are)
-            (subst (λ (fails : Bool). HasWalked config deps query searched.queue.items search.passed.items (unanswered fails)) (sym fails_is)
-            (walked_among config deps query search.queue searched.queue.items search.passed.items (unanswered search.fails) among back (so.walked query nearest)));
+            subst (λ (first : List Queued). HasWalked config deps query searched.queue.items first (unanswered searched.fails searched.faulty)) (sym first_are)
+            (subst (λ (fails : Bool). HasWalked config deps query searched.queue.items search.passed.items (unanswered fails searched.faulty)) (sym fails_is)
+            (same_told config deps query searched.queue.items search.passed.items (unanswered search.fails search.faulty) searched.faulty faulty_is
+            (walked_among config deps query search.queue searched.queue.items search.passed.items (unanswered search.fails search.faulty) among back (so.walked query nearest))));
       }
     where
       among : (state : State) → Contains (map (queued_state config query) search.queue) state → Contains (map (queued_state config query) searched.queue.items) state

@@ -6,7 +6,7 @@ use Rattle.dns_data.specs.RrType.{type_eq}
 use Rattle.dns_data.specs.declared.rdata.Rdata.{Rdata}
 use Rattle.dns_data.specs.declared.rr_type.RrType.{RrType}
 use Rattle.dns_data.specs.declared.rr_type.RrType.TheVariants as types
-use Rattle.dns_data.proofs.NameFronts.{is_prefix_tells}
+use Rattle.dns_data.proofs.NameFronts.{is_prefix_tells, is_prefix_told}
 use Rattle.net_model.specs.Lookup.{answer_of, answered}
 use Rattle.net_model.specs.Nearest.{held_zone, nearest_of}
 use Rattle.net_model.specs.Step.{Setting, Branch, Go, End, after_lookup, arrived, next, rewritten}
@@ -26,6 +26,7 @@ use Rattle.zone_lookup.proofs.Replying as replying
 use Rattle.zone_lookup.specs.Resting.{data_leaf}
 use Rattle.straight_walks.specs.Answers.{owner_leaf, sorted_data, zone_owner}
 use Rattle.straight_walks.specs.Searching.{AnswersAt, state_at, to_servers}
+use Rattle.straight_walks.proofs.BelowOrigins.{cut_begins}
 use Rattle.straight_walks.proofs.Unhosted.{nearest_is_held}
 
 -- an owner's data, or that it has none
@@ -149,11 +150,15 @@ module _ (config : Config) (query server : Labels) where
   nothing_answers tree so = λ setting rtype state same at named. nothing_end config query server setting rtype state same at named tree so
 
   module _ (tree : Bor ZoneTree) (cut : ℕ) (so : IsReply config server query (reply.Refers tree cut)) where
-    -- the zone cut by which a server refers the query is at or below the origin of a zone that it holds
+    -- the zone cut by which a server refers the query is at or below the origin of a zone that it holds, and at or above
+    -- the query
     pub refers_inside : is_prefix tree.now.zone.origin (name_of tree.now cut) ≡ true
     refers_inside =
         cut_inside tree.now.zone query types.A (name_of tree.now cut) (ns_names tree.now.zone (name_of tree.now cut)) (is_prefix_tells tree.now.zone.origin query so.1.1.inside)
         (ap (answered tree.now.zone query types.A) so.1.1.decides)
+
+    pub refers_above : is_prefix (name_of tree.now cut) query ≡ true
+    refers_above = is_prefix_told (name_of tree.now cut) query (cut_begins tree.now.zone query (name_of tree.now cut) so.1.1.decides).1
 
     pub refers_held : held_zone config server tree.now.zone.origin ≡ Some tree.now.zone
     refers_held = nearest_is_held config server query tree.now.zone so.0

@@ -4,6 +4,7 @@ use Rattle.std.specs.Prelude.{◌↔◌, ◌⊎◌, ◌&&◌, option_map, if◌t
 use Rattle.std.specs.Option.{option_map_or}
 use Rattle.std.specs.Cmp.{booleans_Decides}
 use Rattle.std.proofs.lemmas.Bool.{and_from, and_parts}
+use Rattle.std.proofs.lemmas.List.{append-nil}
 use mathlib.Core.Bool.{beq}
 use lib.Pointwise.{pointwise}
 use Rattle.dns_data.specs.Name.{Labels}
@@ -147,10 +148,11 @@ module _ (ends : StraightEnds) (answering : AnswerOwners) (rewrites more : ℕ) 
   pub put_first : ends.answer ≡ None → AnswerIsPut ends answering rewrites none_below (record (with_rewrites ends more none_below) { answer = Some answering })
   put_first none =
       record {
-        still = record { rewrites = kept; outcomes = still };
+        still = record { rewrites = kept; faulty = ([], sym (append-nil ends.faulty.items)); outcomes = still };
         behind = reached;
         there = λ rtype. refl;
         only = only;
+        same_faulty = refl;
         alone = refl;
         unnamed = refl;
       }

@@ -8,6 +8,7 @@ use Rattle.dns_data.specs.declared.rr_type.RrType.{RrType}
 use Rattle.dns_data.proofs.Membership.{along, first_or_later, has_first, has_later, none_in_nil}
 use Rattle.dns_data.proofs.Names.{all_append, all_so}
 use Rattle.net_model.specs.declared.deps.Deps.{Deps}
+use Rattle.net_model.specs.declared.fault.Fault.{Fault}
 use Rattle.net_model.specs.Step.{Setting, Branch, next}
 use Rattle.net_model.specs.declared.walk.State.{State}
 use Rattle.straight_walks.specs.Searching.{PassesState}
@@ -16,10 +17,10 @@ use Rattle.straight_walks.specs.declared.ends.StraightEnds.{StraightEnds}
 use Rattle.straight_walks.proofs.AliasWalks.{along_steps}
 use Rattle.straight_walks.proofs.GoingOn.{fails_or_goes_still}
 
-module _ (setting : Setting) (deps : Deps) (ends : StraightEnds) (rtype : RrType) (states : List State) where
+module _ (setting : Setting) (deps : Deps) (faulty : List Fault) (ends : StraightEnds) (rtype : RrType) (states : List State) where
   -- walks go straight from the state
   abbrev Pass : State → Type 0
-  Pass state = PassesState setting deps ends rtype states state
+  Pass state = PassesState setting deps faulty ends rtype states state
 
   -- the states behind it
   abbrev behind_of : (state : State) → Pass state → List State
@@ -57,24 +58,24 @@ module _ (setting : Setting) (deps : Deps) (ends : StraightEnds) (rtype : RrType
 
   -- among states that have them walks go straight from each
   module _ (all : List State) (queued : (state : State) → Contains states state → Contains all state) where
-    branch_steps : (state : State) (branch : Branch) → FailsOrGoes setting.config deps ends.fails states branch → BranchStraight setting deps ends rtype all state branch
-    branch_steps state branch so = inl (fails_or_goes_still setting.config deps ends.fails ends.fails (λ is. is) states all queued branch so)
+    branch_steps : (state : State) (branch : Branch) → FailsOrGoes setting.config deps faulty ends.fails states branch → BranchStraight setting deps faulty ends rtype all state branch
+    branch_steps state branch so = inl (fails_or_goes_still setting.config deps faulty faulty (λ fault has. has) ends.fails ends.fails (λ is. is) states all queued branch so)
 
     one_steps : (state : State) (pass : Pass state) → AllByRecursion (Contains all) (behind_of state pass)
-        → AllByRecursion (StepsStraight setting deps ends rtype all) (state ∷ behind_of state pass)
+        → AllByRecursion (StepsStraight setting deps faulty ends rtype all) (state ∷ behind_of state pass)
     one_steps state (inl branches) among = (
-      all_so (FailsOrGoes setting.config deps ends.fails states) (BranchStraight setting deps ends rtype all state) (next setting rtype state) (branch_steps state) branches,
+      all_so (FailsOrGoes setting.config deps faulty ends.fails states) (BranchStraight setting deps faulty ends rtype all state) (next setting rtype state) (branch_steps state) branches,
       tt,
     )
-    one_steps state (inr (behind, leaf, few, is, told, answers)) among = along_steps setting deps ends rtype all leaf is told state behind answers among
+    one_steps state (inr (behind, leaf, few, is, told, answers)) among = along_steps setting deps faulty ends rtype all leaf is told state behind answers among
 
     -- from each of some states, and from each state behind them, walks go straight among all states that have them
     pub all_step : (some : List State) (pass : AllByRecursion Pass some) → ((state : State) → Contains (with_behind some pass) state → Contains all state)
-        → AllByRecursion (StepsStraight setting deps ends rtype all) (with_behind some pass)
+        → AllByRecursion (StepsStraight setting deps faulty ends rtype all) (with_behind some pass)
     all_step [] pass among = tt
     all_step (state ∷ rest) pass among =
         let behind = behind_of state pass.0 in
         let later = with_behind rest pass.1 in
-        all_append (StepsStraight setting deps ends rtype all) (state ∷ behind) later
+        all_append (StepsStraight setting deps faulty ends rtype all) (state ∷ behind) later
         (one_steps state pass.0 (along (Contains all) behind (λ one has. among one (has_later state (behind ++ later) one (Contains-append_left behind later one has)))))
         (all_step rest pass.1 (λ one has. among one (has_later state (behind ++ later) one (Contains-append_right behind later one has))))

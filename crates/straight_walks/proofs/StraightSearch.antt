@@ -1,5 +1,5 @@
 -- The search for the states from which walks go straight.
-use Rattle.std.proofs.Common.{◌≡◌, ℕ, ◌+◌, ◌*◌, ◌<◌, ◌≤◌, Bool, true, List, [], ◌∷◌, ◌++◌, length, map, take, take_all, get_or, Option, Some, None, IfSome, Bor, refl, sym, ap, ◌∙◌, subst, inl, inr, arith}
+use Rattle.std.proofs.Common.{◌≡◌, Vec, Global, ℕ, ◌+◌, ◌*◌, ◌<◌, ◌≤◌, Bool, true, List, [], ◌∷◌, ◌++◌, length, map, take, take_all, get_or, Option, Some, None, IfSome, Bor, refl, sym, ap, ◌∙◌, subst, inl, inr, arith}
 use Rattle.std.specs.Prelude.{◌⊎◌, Contains}
 use Rattle.std.specs.List.{AllByRecursion, slice_get}
 use Rattle.std.proofs.lemmas.List.{append-nil, length-append, length-map, map-append, take_more, take-append-le}
@@ -8,12 +8,14 @@ use Rattle.std.proofs.lemmas.Option.{slice_get_read}
 use Rattle.dns_data.specs.Name.{Labels}
 use Rattle.dns_data.specs.declared.rr_type.RrType.{RrType}
 use Rattle.dns_data.specs.declared.rr_type.RrType.TheVariants as types
-use Rattle.dns_data.proofs.Membership.{each_along, from_map, has_first, map_has}
-use Rattle.dns_data.proofs.Names.{all_push, all_so}
+use Rattle.dns_data.proofs.Membership.{each_along, from_map, has_first, map_has, none_in_nil}
+use Rattle.dns_data.proofs.Names.{all_append, all_push, all_so}
 use Rattle.net_model.specs.declared.deps.Deps.{Deps}
 use Rattle.net_model.specs.Step.{Setting, Branch, Go, End, arrived, next, start}
 use Rattle.net_model.specs.Zone.{ns_names}
 use Rattle.net_model.specs.declared.config.Config.{Config}
+use Rattle.net_model.specs.declared.fault.Fault.{Fault}
+use Rattle.net_model.specs.Shown.{Shows, with_lists}
 use Rattle.net_model.specs.declared.walk.Hop.{Hop}
 use Rattle.net_model.specs.declared.walk.Leaf.{Leaf}
 use Rattle.net_model.specs.declared.walk.Leaf.TheVariants.{Outside}
@@ -24,13 +26,16 @@ use Rattle.straight_walks.specs.Answers.{AnswerOwners, leaf_of}
 use Rattle.straight_walks.specs.Ends.{IsOutcomeOf}
 use Rattle.zone_lookup.specs.Reply.{IsReply}
 use Rattle.straight_walks.specs.Searching.{AnswersSo, AreReferrals, BeginsAtTops, EndsWith, GoesStraightIn, HasPassed, HasWalked, IsBegun, IsComeTo, AnswerIsPut, IsSettingFor, IsSettingOf, KeepsOutcomes, LeadsOn, PassesServer, PassesState, state_at, queued_state, to_servers, unanswered, HoldsOfEachTold}
-use Rattle.straight_walks.specs.Straight.{BranchStraight, FailsOrGoes, StepsStraight}
+use Rattle.straight_walks.specs.Faulty.{AreAbove, BranchShows, faults_at}
+use Rattle.straight_walks.specs.Straight.{BranchStraight, FailsOrGoes, StepsStraight, told_of}
+use Rattle.straight_walks.specs.declared.faulty.Faulty.{Faulty}
+use Rattle.straight_walks.proofs.BranchShown.{by_branch}
 use Rattle.straight_walks.specs.declared.ends.StraightEnds.{StraightEnds}
 use Rattle.straight_walks.specs.declared.queue.Queued.{Queued}
 use Rattle.zone_lookup.specs.declared.reply.Reply.TheVariants as reply
 use Rattle.straight_walks.proofs.AliasWalks.{ends_along, ends_by_branch}
 use Rattle.straight_walks.proofs.ComingTo.{comes_first, comes_on, comes_to_end}
-use Rattle.straight_walks.proofs.GoingOn.{fails_or_goes_still, still_queued}
+use Rattle.straight_walks.proofs.GoingOn.{fails_or_goes_still, faults_kept, still_queued}
 use Rattle.straight_walks.proofs.Replies.{outside_ends, refers_to}
 use Rattle.straight_walks.proofs.SameOutcomes.{answers_told, outcome_told}
 use Rattle.straight_walks.proofs.StatesBehind.{all_step, few_in_all, still_there, with_behind}
@@ -47,18 +52,19 @@ module _ (config : Config) (deps : Deps) (query : Labels) where
 
   module _ (setting : Setting) (before after : List Queued) (more : AreAmong before after) (ends_before ends : StraightEnds) (still : KeepsOutcomes ends_before ends) (rtype : RrType) where
     -- a branch that ends or goes on to queued states does so where those and others are, and more outcomes are told
-    branch_still : (branch : Branch) → FailsOrGoes setting.config deps ends_before.fails (map (queued_state config query) before) branch
-        → FailsOrGoes setting.config deps ends.fails (map (queued_state config query) after) branch
+    branch_still : (branch : Branch) → FailsOrGoes setting.config deps (told_of query ends_before) ends_before.fails (map (queued_state config query) before) branch
+        → FailsOrGoes setting.config deps (told_of query ends) ends.fails (map (queued_state config query) after) branch
     branch_still =
-        fails_or_goes_still setting.config deps ends_before.fails ends.fails (still.outcomes rtype None)
+        fails_or_goes_still setting.config deps (told_of query ends_before) (told_of query ends)
+        (faults_kept query ends_before.faulty.items ends.faulty.items still.faulty) ends_before.fails ends.fails (still.outcomes rtype None)
         (map (queued_state config query) before) (map (queued_state config query) after) more
 
     -- walks still go straight from a state then
-    steps_still : (state : State) → PassesState setting deps ends_before rtype (map (queued_state config query) before) state
-        → PassesState setting deps ends rtype (map (queued_state config query) after) state
+    steps_still : (state : State) → PassesState setting deps (told_of query ends_before) ends_before rtype (map (queued_state config query) before) state
+        → PassesState setting deps (told_of query ends) ends rtype (map (queued_state config query) after) state
     steps_still state (inl branches) =
-        inl (all_so (FailsOrGoes setting.config deps ends_before.fails (map (queued_state config query) before))
-        (FailsOrGoes setting.config deps ends.fails (map (queued_state config query) after)) (next setting rtype state) branch_still branches)
+        inl (all_so (FailsOrGoes setting.config deps (told_of query ends_before) ends_before.fails (map (queued_state config query) before))
+        (FailsOrGoes setting.config deps (told_of query ends) ends.fails (map (queued_state config query) after)) (next setting rtype state) branch_still branches)
     steps_still state (inr (behind, leaf, few, is, told, along)) = inr (behind, leaf, omega (arith, few, still.rewrites), is, still.outcomes rtype (Some leaf) told, along)
 
   -- ---- one server
@@ -69,11 +75,13 @@ module _ (config : Config) (deps : Deps) (query : Labels) where
     outside_passes so =
         record {
           extends = ([], sym (append-nil queue));
-          still = record { rewrites = omega arith; outcomes = still };
+          still = record { rewrites = omega arith; faulty = ([], sym (append-nil ends.faulty.items)); outcomes = still };
+          above = λ above. above;
           steps = λ setting rtype above of.
-              inl (subst (AllByRecursion (FailsOrGoes setting.config deps true (map (queued_state config query) queue))) (sym (ends_so setting rtype above of.is_of)) (inl (refl, inl refl), tt));
+              inl (subst (AllByRecursion (FailsOrGoes setting.config deps (told_of query ends) true (map (queued_state config query) queue))) (sym (ends_so setting rtype above of.is_of)) (inl (refl, inl refl), tt));
           leads = λ one has. inl has;
           told = told;
+          shown = λ fault has. inl has;
         }
       where
         ends_so : (setting : Setting) (rtype : RrType) (above : ℕ) → IsSettingOf config deps setting
@@ -99,11 +107,13 @@ module _ (config : Config) (deps : Deps) (query : Labels) where
         record {
           extends = ([], sym (append-nil queue));
           still = put.still;
+          above = subst (AreAbove query) (sym put.same_faulty);
           steps = λ setting rtype above of.
               let (behind, few, along) = so setting rtype above of.is_of.config_is (omega (arith, put.behind, of.rewrites)) in
               inr (behind, leaf_of answering rtype, omega (arith, few, put.behind), answers_told answering rtype, put.there rtype, along);
           leads = λ one has. inl has;
           told = λ rtype outcome is. told rtype outcome (put.only rtype outcome is);
+          shown = λ fault has. inl (subst (λ (all : List Faulty). Contains (faults_at query all) fault) put.same_faulty has);
         }
       where
         told : (rtype : RrType) (outcome : Option Leaf) → IsOutcomeOf ends rtype outcome ⊎ (outcome ≡ Some (leaf_of answering rtype)) → IsOutcomeOf ends rtype outcome
@@ -115,18 +125,22 @@ module _ (config : Config) (deps : Deps) (query : Labels) where
             (ends_along setting rtype (leaf_of answering rtype) (state_at config query server above) behind along))
 
     -- walks pass a server whose zone refers the name
-    pub referral_passes : (tree : Bor ZoneTree) (cut : ℕ) (after : List Queued) (fails : Bool) → IsReply config server query (reply.Refers tree cut)
-        → AreReferrals config deps query server tree.now.zone (name_of tree.now cut) (ns_names tree.now.zone (name_of tree.now cut)) queue ends.fails after fails
-        → PassesServer config deps query server queue ends after (record ends { fails = fails })
-    referral_passes tree cut after fails so on =
+    pub referral_passes : (tree : Bor ZoneTree) (cut : ℕ) (after : List Queued) (fails : Bool) (faulty : Vec Faulty Global) → IsReply config server query (reply.Refers tree cut)
+        → AreReferrals config deps query server tree.now.zone (name_of tree.now cut) (ns_names tree.now.zone (name_of tree.now cut))
+        (record { queue = queue; fails = ends.fails; faulty = ends.faulty.items }) (record { queue = after; fails = fails; faulty = faulty.items })
+        → PassesServer config deps query server queue ends after (record ends { fails = fails; faulty = faulty })
+    referral_passes tree cut after fails faulty so on =
         record {
           extends = on.extends;
-          still = record { rewrites = omega arith; outcomes = still };
+          still = record { rewrites = omega arith; faulty = (on.keeps.0, on.keeps.1); outcomes = still };
+          above = λ above.
+              subst (AreAbove query) (sym on.keeps.1) (all_append (λ (one : Faulty). one.cut ≤ length query) ends.faulty.items on.keeps.0 above on.keeps.2);
           steps = λ setting rtype above of.
-              inl (subst (AllByRecursion (FailsOrGoes setting.config deps fails (map (queued_state config query) after))) (sym (refers setting rtype above of.is_of))
+              inl (subst (AllByRecursion (FailsOrGoes setting.config deps (faults_at query faulty.items) fails (map (queued_state config query) after))) (sym (refers setting rtype above of.is_of))
               (on.each setting above of.is_of));
           leads = λ one has. leads one (on.leads one has);
           told = told;
+          shown = λ fault has. shown fault (on.shown fault has);
         }
       where
         branches : Setting → ℕ → List Branch
@@ -135,9 +149,18 @@ module _ (config : Config) (deps : Deps) (query : Labels) where
         refers : (setting : Setting) (rtype : RrType) (above : ℕ) → IsSettingOf config deps setting → next setting rtype (state_at config query server above) ≡ branches setting above
         refers setting rtype above of = refers_to config query server tree cut so setting rtype above of.config_is
 
-        still : (rtype : RrType) (outcome : Option Leaf) → IsOutcomeOf ends rtype outcome → IsOutcomeOf (record ends { fails = fails }) rtype outcome
+        still : (rtype : RrType) (outcome : Option Leaf) → IsOutcomeOf ends rtype outcome → IsOutcomeOf (record ends { fails = fails; faulty = faulty }) rtype outcome
         still rtype None is = on.still is
         still rtype (Some leaf) is = is
+
+        shown : (fault : Fault) → Contains (told_of query ends) fault ⊎ ((setting : Setting) (above : ℕ) → IsSettingOf config deps setting
+            → (branch : Branch) × Contains (branches setting above) branch × BranchShows setting.config deps branch fault)
+            → Contains (told_of query ends) fault ⊎ ((setting : Setting) (rtype : RrType) (above : ℕ) → IsSettingOf config deps setting
+            → (branch : Branch) × Contains (next setting rtype (state_at config query server above)) branch × BranchShows setting.config deps branch fault)
+        shown fault (inl before) = inl before
+        shown fault (inr by) = inr (λ setting rtype above of.
+            let (branch, has, is) = by setting above of in
+            (branch, subst (λ (all : List Branch). Contains all branch) (sym (refers setting rtype above of)) has, is))
 
         leads : (one : Queued) → Contains queue one ⊎ ((setting : Setting) (above : ℕ) → IsSettingOf config deps setting
             → (hop : Hop) × Contains (branches setting above) (Go hop (queued_state config query one)))
@@ -148,15 +171,15 @@ module _ (config : Config) (deps : Deps) (query : Labels) where
             let (hop, has) = goes setting above of in
             (hop, subst (λ (all : List Branch). Contains all (Go hop (queued_state config query one))) (sym (refers setting rtype above of)) has))
 
-        told : (rtype : RrType) (outcome : Option Leaf) → IsOutcomeOf (record ends { fails = fails }) rtype outcome → IsOutcomeOf ends rtype outcome
-            ⊎ ((setting : Setting) (above : ℕ) → IsSettingFor config deps (record ends { fails = fails }) setting
+        told : (rtype : RrType) (outcome : Option Leaf) → IsOutcomeOf (record ends { fails = fails; faulty = faulty }) rtype outcome → IsOutcomeOf ends rtype outcome
+            ⊎ ((setting : Setting) (above : ℕ) → IsSettingFor config deps (record ends { fails = fails; faulty = faulty }) setting
             → EndsWith setting rtype (state_at config query server above) outcome)
         told rtype (Some leaf) is = inl is
         told rtype None is = by (on.told is) where
           by : (ends.fails ≡ true) ⊎ ((setting : Setting) (above : ℕ) → IsSettingOf config deps setting
               → (hop : Option Hop) × (leaf : Leaf) × Contains (branches setting above) (End hop leaf) × (outcome_of leaf ≡ None))
               → (ends.fails ≡ true)
-              ⊎ ((setting : Setting) (above : ℕ) → IsSettingFor config deps (record ends { fails = fails }) setting
+              ⊎ ((setting : Setting) (above : ℕ) → IsSettingFor config deps (record ends { fails = fails; faulty = faulty }) setting
               → EndsWith setting rtype (state_at config query server above) None)
           by (inl before) = inl before
           by (inr end) = inr (λ setting above of.
@@ -167,8 +190,9 @@ module _ (config : Config) (deps : Deps) (query : Labels) where
   -- ---- those that are passed
 
   -- a search begins at the top servers
-  pub begins_at_top : (queue : List Queued) (fails : Bool) → BeginsAtTops config query queue fails → HasWalked config deps query queue [] (unanswered fails)
-  begins_at_top queue fails so =
+  pub begins_at_top : (queue : List Queued) (fails : Bool) (faulty : Vec Faulty Global) → faulty.items ≡ [] → BeginsAtTops config query queue fails
+      → HasWalked config deps query queue [] (unanswered fails faulty)
+  begins_at_top queue fails faulty none so =
       record {
         begins = so.each;
         comes = λ setting rtype of one has.
@@ -176,9 +200,11 @@ module _ (config : Config) (deps : Deps) (query : Labels) where
             (subst (λ (c : Config). Contains (start c query) (queued_state config query one)) (sym of.config_is) (so.only one has));
         steps = λ setting rtype of. tt;
         told = told;
+        shown = λ setting rtype fault of has. absurd (none_in_nil fault (subst (λ (all : List Faulty). Contains (faults_at query all) fault) none has));
+        above = subst (AreAbove query) (sym none) tt;
       }
     where
-      told : (setting : Setting) (rtype : RrType) (outcome : Option Leaf) → IsSettingFor config deps (unanswered fails) setting → IsOutcomeOf (unanswered fails) rtype outcome
+      told : (setting : Setting) (rtype : RrType) (outcome : Option Leaf) → IsSettingFor config deps (unanswered fails faulty) setting → IsOutcomeOf (unanswered fails faulty) rtype outcome
           → HasOutcome setting query rtype outcome
       told setting rtype (Some leaf) of is = cc
       told setting rtype None of is =
@@ -207,13 +233,15 @@ module _ (config : Config) (deps : Deps) (query : Labels) where
         begins = λ top has. begun_still queue after ends_before.fails ends.fails more (one.still.outcomes types.A None) top (so.begins top has);
         comes = λ setting rtype of other has. comes setting rtype of other (one.leads other has);
         steps = λ setting rtype of.
-            subst (AllByRecursion (PassesState setting deps ends rtype (map (queued_state config query) after))) (sym (map-append (queued_state config query) passed (item ∷ [])))
-            (all_push (PassesState setting deps ends rtype (map (queued_state config query) after)) (map (queued_state config query) passed) (queued_state config query item)
-            (all_so (PassesState setting deps ends_before rtype (map (queued_state config query) queue)) (PassesState setting deps ends rtype (map (queued_state config query) after))
+            subst (AllByRecursion (PassesState setting deps (told_of query ends) ends rtype (map (queued_state config query) after))) (sym (map-append (queued_state config query) passed (item ∷ [])))
+            (all_push (PassesState setting deps (told_of query ends) ends rtype (map (queued_state config query) after)) (map (queued_state config query) passed) (queued_state config query item)
+            (all_so (PassesState setting deps (told_of query ends_before) ends_before rtype (map (queued_state config query) queue)) (PassesState setting deps (told_of query ends) ends rtype (map (queued_state config query) after))
             (map (queued_state config query) passed) (steps_still setting queue after more ends_before ends one.still rtype)
             (so.steps setting rtype (setting_before ends_before ends one.still setting of)))
             (one.steps setting rtype item.cut of));
         told = λ setting rtype outcome of is. told setting rtype outcome of (one.told rtype outcome is);
+        shown = λ setting rtype fault of has. shown setting rtype fault of (one.shown fault has);
+        above = one.above so.above;
       }
     where
       more : AreAmong queue after
@@ -226,6 +254,15 @@ module _ (config : Config) (deps : Deps) (query : Labels) where
       comes setting rtype of other (inl before) = so.comes setting rtype of other before
       comes setting rtype of other (inr leads) =
           comes_on setting query rtype (queued_state config query item) (so.comes setting rtype of item among) (queued_state config query other) (leads setting rtype item.cut of)
+
+      shown : (setting : Setting) (rtype : RrType) (fault : Fault) → IsSettingOf config deps setting
+          → Contains (told_of query ends_before) fault ⊎ ((setting : Setting) (rtype : RrType) (above : ℕ) → IsSettingOf config deps setting
+          → (branch : Branch) × Contains (next setting rtype (state_at config query item.server.now above)) branch × BranchShows setting.config deps branch fault)
+          → Shows (with_lists setting deps.least deps.greatest) query rtype fault
+      shown setting rtype fault of (inl before) = so.shown setting rtype fault of before
+      shown setting rtype fault of (inr by) =
+          let (branch, has, shows) = by setting rtype item.cut of in
+          by_branch setting deps query rtype (queued_state config query item) (so.comes setting rtype of item among) branch fault has shows
 
       told : (setting : Setting) (rtype : RrType) (outcome : Option Leaf) → IsSettingFor config deps ends setting
           → IsOutcomeOf ends_before rtype outcome ⊎ ((setting : Setting) (above : ℕ) → IsSettingFor config deps ends setting
@@ -243,11 +280,43 @@ module _ (config : Config) (deps : Deps) (query : Labels) where
         begins = λ top has. begun_still queue other ends.fails ends.fails more (λ is. is) top (so.begins top has);
         comes = λ setting rtype of one has. so.comes setting rtype of one (back one has);
         steps = λ setting rtype of.
-            all_so (PassesState setting deps ends rtype (map (queued_state config query) queue)) (PassesState setting deps ends rtype (map (queued_state config query) other))
-            (map (queued_state config query) passed) (steps_still setting queue other more ends ends (record { rewrites = omega arith; outcomes = λ rtype outcome is. is }) rtype)
+            all_so (PassesState setting deps (told_of query ends) ends rtype (map (queued_state config query) queue)) (PassesState setting deps (told_of query ends) ends rtype (map (queued_state config query) other))
+            (map (queued_state config query) passed) (steps_still setting queue other more ends ends (record { rewrites = omega arith; faulty = ([], sym (append-nil ends.faulty.items)); outcomes = λ rtype outcome is. is }) rtype)
             (so.steps setting rtype of);
         told = so.told;
+        shown = so.shown;
+        above = so.above;
       }
+
+  -- and so it has where the same referrals are told to show faults
+  pub same_told : (queue passed : List Queued) (ends : StraightEnds) (faulty : Vec Faulty Global) → faulty.items ≡ ends.faulty.items
+      → HasWalked config deps query queue passed ends → HasWalked config deps query queue passed (record ends { faulty = faulty })
+  same_told queue passed ends faulty same so =
+      record {
+        begins = so.begins;
+        comes = so.comes;
+        steps = λ setting rtype of.
+            all_so (PassesState setting deps (told_of query ends) ends rtype (map (queued_state config query) queue))
+            (PassesState setting deps (told_of query after) after rtype (map (queued_state config query) queue)) (map (queued_state config query) passed)
+            (steps_still setting queue queue (λ state has. has) ends after still rtype) (so.steps setting rtype (setting_before ends after still setting of));
+        told = λ setting rtype outcome of is. so.told setting rtype outcome (setting_before ends after still setting of) (back rtype outcome is);
+        shown = λ setting rtype fault of has. so.shown setting rtype fault of (subst (λ (all : List Faulty). Contains (faults_at query all) fault) same has);
+        above = subst (AreAbove query) (sym same) so.above;
+      }
+    where
+      after : StraightEnds
+      after = record ends { faulty = faulty }
+
+      on : (rtype : RrType) (outcome : Option Leaf) → IsOutcomeOf ends rtype outcome → IsOutcomeOf after rtype outcome
+      on rtype None is = is
+      on rtype (Some leaf) is = is
+
+      back : (rtype : RrType) (outcome : Option Leaf) → IsOutcomeOf after rtype outcome → IsOutcomeOf ends rtype outcome
+      back rtype None is = is
+      back rtype (Some leaf) is = is
+
+      still : KeepsOutcomes ends after
+      still = record { rewrites = omega arith; faulty = ([], same ∙ sym (append-nil ends.faulty.items)); outcomes = on }
 
   -- one queued state more is passed if walks pass its server
   pub one_passed : (queue after : List Queued) (at : ℕ) (ends_before ends : StraightEnds) (item : Queued) → at < length queue → item ≡ get_or queue at item
@@ -265,14 +334,15 @@ module _ (config : Config) (deps : Deps) (query : Labels) where
           ap (take (at + 1)) one.extends.1 ∙ take-append-le (at + 1) queue one.extends.0 (omega (arith, within)) ∙ take_more queue at item within ∙ (λ j. take at queue ++ sym is j ∷ [])
 
   -- the queued states passed so far stay passed if the next one's server refers the name
-  pub referral_passed : (queue after : List Queued) (at : ℕ) (ends : StraightEnds) (fails : Bool) (tree : Bor ZoneTree) (cut : ℕ) (item : Queued)
+  pub referral_passed : (queue after : List Queued) (at : ℕ) (ends : StraightEnds) (fails : Bool) (faulty : Vec Faulty Global) (tree : Bor ZoneTree) (cut : ℕ) (item : Queued)
       → at < length queue → item ≡ get_or queue at item
       → IfSome (slice_get queue at) (λ one. IsReply config one.server.now query (reply.Refers tree cut)) → HasPassed config deps query queue at ends
-      → AreReferrals config deps query item.server.now tree.now.zone (name_of tree.now cut) (ns_names tree.now.zone (name_of tree.now cut)) queue ends.fails after fails
-      → HasPassed config deps query after (at + 1) (record ends { fails = fails })
-  referral_passed queue after at ends fails tree cut item within is refers so on =
-      one_passed queue after at ends (record ends { fails = fails }) item within is so
-      (referral_passes item.server.now queue ends tree cut after fails referred on)
+      → AreReferrals config deps query item.server.now tree.now.zone (name_of tree.now cut) (ns_names tree.now.zone (name_of tree.now cut))
+      (record { queue = queue; fails = ends.fails; faulty = ends.faulty.items }) (record { queue = after; fails = fails; faulty = faulty.items })
+      → HasPassed config deps query after (at + 1) (record ends { fails = fails; faulty = faulty })
+  referral_passed queue after at ends fails faulty tree cut item within is refers so on =
+      one_passed queue after at ends (record ends { fails = fails; faulty = faulty }) item within is so
+      (referral_passes item.server.now queue ends tree cut after fails faulty referred on)
     where
       referred : IsReply config item.server.now query (reply.Refers tree cut)
       referred =
@@ -284,43 +354,43 @@ module _ (config : Config) (deps : Deps) (query : Labels) where
     abbrev queued : List State
     queued = map (queued_state config query) queue
 
-    passes : AllByRecursion (PassesState setting deps ends rtype queued) queued
+    passes : AllByRecursion (PassesState setting deps (told_of query ends) ends rtype queued) queued
     passes =
-        subst (λ (passed : List Queued). AllByRecursion (PassesState setting deps ends rtype queued) (map (queued_state config query) passed))
+        subst (λ (passed : List Queued). AllByRecursion (PassesState setting deps (told_of query ends) ends rtype queued) (map (queued_state config query) passed))
         (take_all at queue all) (so.walked.steps setting rtype (record { is_of = of; rewrites = enough }))
 
     -- the queued states with those behind them, and the states at all top servers
     abbrev walked : List State
-    walked = with_behind setting deps ends rtype queued queued passes
+    walked = with_behind setting deps (told_of query ends) ends rtype queued queued passes
 
     abbrev reached : List State
     reached = walked ++ start config query
 
-    walk_on : (state : State) → Contains walked state → StepsStraight setting deps ends rtype reached state
+    walk_on : (state : State) → Contains walked state → StepsStraight setting deps (told_of query ends) ends rtype reached state
     walk_on state has =
-        each_along (StepsStraight setting deps ends rtype reached) walked
-        (all_step setting deps ends rtype queued reached
-        (λ one among. Contains-append_left walked (start config query) one (still_there setting deps ends rtype queued queued passes one among))
+        each_along (StepsStraight setting deps (told_of query ends) ends rtype reached) walked
+        (all_step setting deps (told_of query ends) ends rtype queued reached
+        (λ one among. Contains-append_left walked (start config query) one (still_there setting deps (told_of query ends) ends rtype queued queued passes one among))
         queued passes (λ one among. Contains-append_left walked (start config query) one among))
         state has
 
-    walk_from : (top : Labels) → IsBegun config query queue ends.fails top → StepsStraight setting deps ends rtype reached (state_at config query top 0)
-    walk_from top (inl has) = walk_on (state_at config query top 0) (still_there setting deps ends rtype queued queued passes (state_at config query top 0) has)
+    walk_from : (top : Labels) → IsBegun config query queue ends.fails top → StepsStraight setting deps (told_of query ends) ends rtype reached (state_at config query top 0)
+    walk_from top (inl has) = walk_on (state_at config query top 0) (still_there setting deps (told_of query ends) ends rtype queued queued passes (state_at config query top 0) has)
     walk_from top (inr (fails, none)) =
-        subst (AllByRecursion (BranchStraight setting deps ends rtype reached (state_at config query top 0)))
+        subst (AllByRecursion (BranchStraight setting deps (told_of query ends) ends rtype reached (state_at config query top 0)))
         (sym (outside_ends config query top none setting rtype 0 of.config_is)) (inl (inl (fails, inl refl)), tt)
 
-    each_walks : (state : State) → Contains reached state → StepsStraight setting deps ends rtype reached state
+    each_walks : (state : State) → Contains reached state → StepsStraight setting deps (told_of query ends) ends rtype reached state
     each_walks state has = by (Contains-append_cases walked (start config query) state has) where
-      by : Contains walked state ⊎ Contains (start config query) state → StepsStraight setting deps ends rtype reached state
+      by : Contains walked state ⊎ Contains (start config query) state → StepsStraight setting deps (told_of query ends) ends rtype reached state
       by (inl among) = walk_on state among
       by (inr first) =
           let (top, has_top, is) = from_map (arrived config query true 0 None) config.tops state first in
-          subst (StepsStraight setting deps ends rtype reached) is (walk_from top (so.walked.begins top has_top))
+          subst (StepsStraight setting deps (told_of query ends) ends rtype reached) is (walk_from top (so.walked.begins top has_top))
 
     few_reached : (most : ℕ) → length queue * (ends.rewrites + 1) ≤ most → length reached ≤ most + length config.tops
     few_reached most few =
-        let in_all : length walked ≤ length queued * (ends.rewrites + 1) = few_in_all setting deps ends rtype queued (ends.rewrites + 1) (omega arith) queued passes in
+        let in_all : length walked ≤ length queued * (ends.rewrites + 1) = few_in_all setting deps (told_of query ends) ends rtype queued (ends.rewrites + 1) (omega arith) queued passes in
         let as_many : length queued * (ends.rewrites + 1) ≡ length queue * (ends.rewrites + 1) =
         ap (λ (n : ℕ). n * (ends.rewrites + 1)) (length-map queue (queued_state config query)) in
         omega (arith, few, length-append walked (start config query), length-map config.tops (arrived config query true 0 None))
@@ -338,6 +408,8 @@ module _ (config : Config) (deps : Deps) (query : Labels) where
             (subst (λ (c : Config). Contains (start c query) state) of.config_is has);
         steps = each_walks queue at ends so all setting of enough rtype;
         told = λ outcome is. so.walked.told setting rtype outcome (record { is_of = of; rewrites = enough }) is;
+        shown = λ fault has. so.walked.shown setting rtype fault of has;
+        above = so.walked.above;
       }
 
   -- ends that are given only within the limits are ends to which the query goes straight

@@ -8,49 +8,59 @@ use Rattle.dns_data.specs.declared.rr_type.RrType.{RrType}
 use Rattle.dns_data.proofs.Names.{all_so}
 use Rattle.net_model.specs.declared.deps.Deps.{Deps}
 use Rattle.graph_form.proofs.Places.{item_there}
-use Rattle.net_model.specs.Shown.{ShowsBlackhole, is_authoritative}
+use Rattle.net_model.specs.Shown.{EndsBehind, ShowsBlackhole, is_authoritative}
 use Rattle.net_model.specs.Step.{Setting, Branch, Go, End, next, start}
 use Rattle.net_model.specs.Walk.{IsWalk, led_on, walk_from}
 use Rattle.net_model.specs.declared.config.Config.{Config}
+use Rattle.net_model.specs.declared.fault.Fault.{Fault}
+use Rattle.net_model.specs.declared.fault.Fault.TheVariants as faults
+use Rattle.net_model.specs.declared.place.Cut.{Cut}
 use Rattle.net_model.specs.declared.place.Place.{Place}
 use Rattle.net_model.specs.declared.walk.Hop.{Hop}
 use Rattle.net_model.specs.declared.walk.Hop.TheVariants.{Refer, Rewrite}
 use Rattle.net_model.specs.declared.walk.Leaf.{Leaf}
-use Rattle.net_model.specs.declared.walk.Leaf.TheVariants.{Answer, NoData, NxDomain, Outside, Unhosted}
+use Rattle.net_model.specs.declared.walk.Leaf.TheVariants.{Answer, Lame, NoData, NxDomain, Outside, Unhosted}
 use Rattle.net_model.specs.declared.walk.State.{State}
 use Rattle.net_model.specs.declared.walk.Walk.{Walk}
 use Rattle.net_model.proofs.Leads.{GoesOn, EndsBy, branch_taken, first_state}
 use Rattle.net_model.proofs.WalkEnds.{item}
 use Rattle.walk_laws.specs.Outcome.{outcome_of}
-use Rattle.zone_lookup.specs.Sound.{IsSound}
 use Rattle.straight_walks.specs.Ends.{IsOutcomeOf}
-use Rattle.straight_walks.specs.Straight.{BranchStraight, GoesStraight}
+use Rattle.straight_walks.specs.Faulty.{IsTold}
+use Rattle.straight_walks.specs.Straight.{BranchStraight, GoesStraight, told_of}
 use Rattle.straight_walks.specs.declared.ends.StraightEnds.{StraightEnds}
 
--- the hop is a referral that shows no fault, or a rewrite
-abbrev pub IsSoundHop : Config → Deps → Hop → Type 0
-IsSoundHop config deps (Refer cut) = IsSound config deps cut
-IsSoundHop config deps (Rewrite place by_dname to) = Unit {0}
+-- the hop is a referral whose faults are told, or a rewrite
+abbrev pub IsToldHop : Config → Deps → List Fault → Hop → Type 0
+IsToldHop config deps told (Refer cut) = IsTold config deps told cut
+IsToldHop config deps told (Rewrite place by_dname to) = Unit {0}
 
 -- no zone answers there and walks fail, or one answers what the ends have with the type
 abbrev pub EndsSo : StraightEnds → RrType → Leaf → Type 0
 EndsSo ends rtype Outside = ends.fails ≡ true
 EndsSo ends rtype (Unhosted ns) = ends.fails ≡ true
+EndsSo ends rtype (Lame ns) = ends.fails ≡ true
 EndsSo ends rtype leaf = (is_authoritative leaf ≡ true) × IsOutcomeOf ends rtype (Some leaf)
+
+-- an end at a server that doesn't serve the delegated zone is one behind a referral of which that is told
+abbrev IsToldLame : List Fault → Option Hop → Leaf → Type 0
+IsToldLame told hop leaf = (ns : Labels) → leaf ≡ Lame ns → (cut : Cut) × (hop ≡ Some (Refer cut)) × Contains told (faults.Lame cut)
 
 -- the branch of the state goes on by such a hop to one of the states, or ends so after such a hop or none; the name
 -- exists where a rewrite led to the state
-abbrev GoesSo : Config → Deps → StraightEnds → RrType → List State → State → Branch → Type 0
-GoesSo config deps ends rtype states state (Go hop to) = IsSoundHop config deps hop × Contains states to
-GoesSo config deps ends rtype states state (End hop leaf) =
-    AllByRecursion (IsSoundHop config deps) (option_to_list hop) × EndsSo ends rtype leaf × (leaf ≡ NxDomain → state.last ≡ None)
+abbrev GoesSo : Config → Deps → List Fault → StraightEnds → RrType → List State → State → Branch → Type 0
+GoesSo config deps told ends rtype states state (Go hop to) = IsToldHop config deps told hop × Contains states to
+GoesSo config deps told ends rtype states state (End hop leaf) =
+    AllByRecursion (IsToldHop config deps told) (option_to_list hop) × EndsSo ends rtype leaf × (leaf ≡ NxDomain → state.last ≡ None) × IsToldLame told hop leaf
 
--- the walk goes by sound hops over some of the states, ends as the ends say, and a name to which it is rewritten exists
-pub record GoesStraightBy (config : Config) (deps : Deps) (ends : StraightEnds) (rtype : RrType) (states : List State) (walk : Walk) : Type 0 where
+-- The walk goes by hops that are told over some of the states, ends as the ends say, and a name to which it is rewritten
+-- exists. If it ends at a server that doesn't serve the delegated zone, that is told of its last referral.
+pub record GoesStraightBy (config : Config) (deps : Deps) (told : List Fault) (ends : StraightEnds) (rtype : RrType) (states : List State) (walk : Walk) : Type 0 where
   pub among : AllByRecursion (Contains states) walk.states
-  pub hops : AllByRecursion (IsSoundHop config deps) walk.hops
+  pub hops : AllByRecursion (IsToldHop config deps told) walk.hops
   pub ends_so : EndsSo ends rtype walk.leaf
   pub exists : (place : Place) → ShowsBlackhole walk place → ⊥
+  pub lame : (ns : Labels) → walk.leaf ≡ Lame ns → (cut : Cut) × EndsBehind walk cut × Contains told (faults.Lame cut)
 
 -- ---- blackholes
 
@@ -100,6 +110,7 @@ ends_answered ends rtype leaf is told = cc
 pub end_told : (ends : StraightEnds) (rtype : RrType) (leaf : Leaf) → EndsSo ends rtype leaf → IsOutcomeOf ends rtype (outcome_of leaf)
 end_told ends rtype Outside so = so
 end_told ends rtype (Unhosted ns) so = so
+end_told ends rtype (Lame ns) so = so
 end_told ends rtype (Answer rdata) so = so.1
 end_told ends rtype NoData so = so.1
 end_told ends rtype NxDomain so = so.1
@@ -108,22 +119,41 @@ end_told ends rtype leaf so = absurd (true≢false (sym so.0))
 module _ (setting : Setting) (deps : Deps) (most : ℕ) (query : Labels) (ends : StraightEnds) (rtype : RrType) (straight : GoesStraight setting deps most query ends rtype) where
   -- a branch of one of the states
   abbrev BranchSo : State → Branch → Type 0
-  BranchSo state branch = GoesSo setting.config deps ends rtype straight.states state branch
+  BranchSo state branch = GoesSo setting.config deps (told_of query ends) ends rtype straight.states state branch
 
   -- a walk from one of the states
   abbrev So : Walk → Type 0
-  So walk = GoesStraightBy setting.config deps ends rtype straight.states walk
+  So walk = GoesStraightBy setting.config deps (told_of query ends) ends rtype straight.states walk
 
   -- where each branch of a state goes straight it goes so
-  branch_so : (state : State) (branch : Branch) → BranchStraight setting deps ends rtype straight.states state branch → BranchSo state branch
-  branch_so state branch (inl (inl (fails, inl outside))) = subst (BranchSo state) (sym outside) (tt, fails, λ is. absurd (apart is)) where
-    apart : Outside ≡ NxDomain → ⊥
-    apart e = cc
-  branch_so state branch (inl (inl (fails, inr (cut, sound, unhosted)))) = subst (BranchSo state) (sym unhosted) ((sound, tt), fails, λ is. absurd (apart is)) where
-    apart : Unhosted cut.ns ≡ NxDomain → ⊥
-    apart e = cc
-  branch_so state branch (inr (inl (leaf, is, told, exists, answers))) = subst (BranchSo state) (sym answers) (tt, ends_answered ends rtype leaf is told, exists)
-  branch_so state branch (inl (inr (cut, to, sound, goes, has))) = subst (BranchSo state) (sym goes) (sound, has)
+  branch_so : (state : State) (branch : Branch) → BranchStraight setting deps (told_of query ends) ends rtype straight.states state branch → BranchSo state branch
+  branch_so state branch (inl (inl (fails, inl outside))) =
+      subst (BranchSo state) (sym outside) (tt, fails, (λ is. absurd (apart is)), λ ns is. absurd (not_lame ns is))
+    where
+      apart : Outside ≡ NxDomain → ⊥
+      apart e = cc
+
+      not_lame : (ns : Labels) → Outside ≡ Lame ns → ⊥
+      not_lame ns e = cc
+  branch_so state branch (inl (inl (fails, inr (cut, told, inl unhosted)))) =
+      subst (BranchSo state) (sym unhosted) ((told, tt), fails, (λ is. absurd (apart is)), λ ns is. absurd (not_lame ns is))
+    where
+      apart : Unhosted cut.ns ≡ NxDomain → ⊥
+      apart e = cc
+
+      not_lame : (ns : Labels) → Unhosted cut.ns ≡ Lame ns → ⊥
+      not_lame ns e = cc
+  branch_so state branch (inl (inl (fails, inr (cut, told, inr (among, lame))))) =
+      subst (BranchSo state) (sym lame) ((told, tt), fails, (λ is. absurd (apart is)), λ ns is. (cut, refl, among))
+    where
+      apart : Lame cut.ns ≡ NxDomain → ⊥
+      apart e = cc
+  branch_so state branch (inr (inl (leaf, is, told, exists, answers))) =
+      subst (BranchSo state) (sym answers) (tt, ends_answered ends rtype leaf is told, exists, λ ns lame. absurd (no_zone ns (sym is ∙ ap is_authoritative lame)))
+    where
+      no_zone : (ns : Labels) → true ≡ is_authoritative (Lame ns) → ⊥
+      no_zone ns e = true≢false e
+  branch_so state branch (inl (inr (cut, to, told, goes, has))) = subst (BranchSo state) (sym goes) (told, has)
   branch_so state branch (inr (inr (place, by_dname, target, to, goes, has))) = subst (BranchSo state) (sym goes) (tt, has)
 
   -- each walk from one of the states goes so
@@ -136,7 +166,7 @@ module _ (setting : Setting) (deps : Deps) (most : ℕ) (query : Labels) (ends :
       taken : (branch : Branch) → slice_get (next setting rtype state) number ≡ Some branch → BranchSo state branch
       taken branch is =
           item (BranchSo state) (next setting rtype state) number branch
-          (all_so (BranchStraight setting deps ends rtype straight.states state) (BranchSo state) (next setting rtype state) (branch_so state) (straight.steps state has)) is
+          (all_so (BranchStraight setting deps (told_of query ends) ends rtype straight.states state) (BranchSo state) (next setting rtype state) (branch_so state) (straight.steps state has)) is
 
       by : GoesOn state (walk_from setting rtype numbers) (slice_get (next setting rtype state) number) walk
           ⊎ EndsBy state (slice_get (next setting rtype state) number) walk
@@ -151,6 +181,9 @@ module _ (setting : Setting) (deps : Deps) (most : ℕ) (query : Labels) (ends :
             hops = (branch.0, so.hops);
             ends_so = so.ends_so;
             exists = λ place shows. so.exists place (on_exists state on.hop on.later on.to begun.0 begun.1 place shows);
+            lame = λ ns is.
+                let (cut, (before, behind), among) = so.lame ns is in
+                (cut, (on.hop ∷ before, ap (λ (hops : List Hop). on.hop ∷ hops) behind), among);
           })
       by (inr end) behind =
           let branch = taken (End end.hop end.leaf) end.is in
@@ -160,6 +193,9 @@ module _ (setting : Setting) (deps : Deps) (most : ℕ) (query : Labels) (ends :
             hops = branch.0;
             ends_so = branch.1;
             exists = end_exists state (option_to_list end.hop) end.leaf branch.2;
+            lame = λ ns is.
+                let (cut, behind, among) = branch.3 ns is in
+                (cut, ([], ap option_to_list behind), among);
           })
 
   -- each walk of the query goes straight by the states

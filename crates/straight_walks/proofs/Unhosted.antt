@@ -1,26 +1,24 @@
 -- A referral to a name server that isn't configured is sound unless it wants glue, and walks end there.
-use Rattle.std.proofs.Common.{◌≡◌, Bool, true, false, not, cond, Option, Some, None, refl, sym, ap, ◌∙◌, subst, inr}
+use Rattle.std.proofs.Common.{◌≡◌, Bool, true, false, not, Option, Some, None, refl, ap, ◌∙◌}
 use Rattle.std.specs.Prelude.{◌&&◌, is_some, option_and_then}
 use Rattle.std.specs.Option.{option_map_or}
 use Rattle.dns_data.specs.Name.{Labels, name_eq, is_prefix}
+use Rattle.dns_data.proofs.Membership.{none_in_nil}
 use Rattle.dns_data.proofs.Names.{name_eq_decides}
 use Rattle.dns_data.proofs.Searches.{found_there}
 use Rattle.net_model.specs.declared.deps.Deps.{Deps}
 use Rattle.net_model.specs.Nearest.{held_zone, nearest, nearest_of, server_named, zone_with_origin}
 use Rattle.net_model.specs.Prefix.{longest}
-use Rattle.net_model.specs.Step.{Setting, End, delegated, may_follow, referred}
 use Rattle.net_model.specs.Zone.{has_address}
 use Rattle.net_model.specs.declared.config.Config.{Config}
 use Rattle.net_model.specs.declared.config.Server.{Server}
 use Rattle.net_model.specs.declared.config.Zone.{Zone}
 use Rattle.net_model.specs.declared.place.Cut.{Cut}
-use Rattle.net_model.specs.declared.walk.Hop.TheVariants.{Refer}
-use Rattle.net_model.specs.declared.walk.Leaf.TheVariants as leaves
-use Rattle.net_model.specs.declared.walk.State.{State}
-use Rattle.zone_lookup.specs.Sound.{IsSound, wants_glue}
+use Rattle.zone_lookup.specs.Sound.{wants_glue}
 use Rattle.zone_lookup.proofs.SoundReferrals.{unhosted_sound}
-use Rattle.straight_walks.specs.Searching.{IsReferral, IsSettingOf}
+use Rattle.straight_walks.specs.Searching.{IsReferral, no_flags}
 use Rattle.straight_walks.specs.declared.name_server.Referral.TheVariants as referral
+use Rattle.straight_walks.proofs.ToldFlags.{ends_unhosted, sound_shows_none}
 
 -- ---- the zone in which a server looks a name up is one that it holds
 
@@ -38,39 +36,27 @@ nearest_is_held config server name zone e = by (server_named config server) e wh
 
 -- ---- a name server that isn't configured
 
--- glue is there, or isn't wanted
-abbrev HasIfBelow : Bool → Bool → Type 0
-HasIfBelow below address = (below && not address) ≡ false
-
-none_wanted : (below address : Bool) → HasIfBelow below address → (below && not (below && address)) ≡ false
+none_wanted : (below address : Bool) → (below && not address) ≡ false → (below && not (below && address)) ≡ false
 none_wanted false address so = refl
 none_wanted true address so = so
 
 module _ (config : Config) (deps : Deps) (query : Labels) (cut : Cut) (zone : Zone) (held : held_zone config cut.server cut.zone ≡ Some zone)
     (unhosted : server_named config cut.ns ≡ None) where
-  glued_by : HasIfBelow (is_prefix cut.cut cut.ns) (has_address zone cut.ns) → wants_glue config cut ≡ false
+  glued_by : (is_prefix cut.cut cut.ns && not (has_address zone cut.ns)) ≡ false → wants_glue config cut ≡ false
   glued_by so =
       let below = is_prefix cut.cut cut.ns in
       ap (λ (referring : Option Zone). below && not (below && option_map_or (λ zone. has_address zone cut.ns) referring false)) held
       ∙ none_wanted below (has_address zone cut.ns) so
 
-  -- a referral to a server that isn't configured ends without an answer, where its glue is there or isn't wanted
-  pub unhosted_ends : HasIfBelow (is_prefix cut.cut cut.ns) (has_address zone cut.ns) → IsReferral config deps query cut referral.Ends
-  unhosted_ends so = λ setting state of.
-      inr (cut, subst (λ (c : Config). IsSound c deps cut) (sym of.config_is) (unhosted_sound config deps cut unhosted (glued_by so)), ends setting state of)
-    where
-      ends : (setting : Setting) (state : State) → IsSettingOf config deps setting → referred setting state cut ≡ End (Some (Refer cut)) (leaves.Unhosted cut.ns)
-      ends setting state of =
-          ap (λ (b : Bool). cond (not b) (End (Some (Refer cut)) (leaves.Unhosted cut.ns))
-          (cond (not (may_follow setting.config cut setting.followed)) (End (Some (Refer cut)) (leaves.NoAddress cut.ns))
-          (delegated state cut (nearest_of setting.config cut.ns state.name))))
-          (ap (λ (s : Option Server). is_some s) (ap (λ (c : Config). server_named c cut.ns) of.config_is ∙ unhosted))
-
--- no glue is wanted for a name server that isn't at or below the cut
-pub far : (below address : Bool) → below ≡ false → (below && not address) ≡ false
-far below address apart = ap (λ (b : Bool). b && not address) apart
-
--- no glue is wanted by a referral whose name server has an address
-pub glued : (below address : Bool) → address ≡ true → (below && not address) ≡ false
-glued false address has = refl
-glued true address has = ap not has
+  -- a referral to a server that isn't configured ends without an answer and shows no fault, where its glue is there or
+  -- isn't wanted
+  pub unhosted_ends : (is_prefix cut.cut cut.ns && not (has_address zone cut.ns)) ≡ false → IsReferral config deps query cut (referral.Ends no_flags)
+  unhosted_ends so =
+      let sound = unhosted_sound config deps cut unhosted (glued_by so) in
+      ends_unhosted config deps query cut no_flags
+      (record {
+        lame_is = refl;
+        each = λ fault has. absurd (sound_shows_none config deps cut sound fault has);
+        only = λ fault has. absurd (none_in_nil fault has);
+      })
+      (ap is_some unhosted)

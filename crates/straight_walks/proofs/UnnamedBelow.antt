@@ -206,10 +206,11 @@ pub put_below : (before after : StraightEnds) (answering : AnswerOwners) (rewrit
     → AnswerIsPut (nothing_below before) (nothing_there answering) 0 none_below (nothing_below after)
 put_below before after answering rewrites none_below put =
     record {
-      still = record { rewrites = put.still.rewrites; outcomes = λ rtype outcome is. still before after answering rewrites none_below put rtype outcome is };
+      still = record { rewrites = put.still.rewrites; faulty = put.still.faulty; outcomes = λ rtype outcome is. still before after answering rewrites none_below put rtype outcome is };
       behind = omega arith;
       there = λ rtype. there before after answering rewrites none_below put rtype ∙ ap (λ (leaf : Leaf). Some leaf) (sym (nothing_leaf answering rtype));
       only = λ rtype outcome is. only before after answering rewrites none_below put rtype outcome is;
+      same_faulty = put.same_faulty;
       alone = put.alone;
       unnamed = put.unnamed;
     }

@@ -1,5 +1,5 @@
 -- A worked value: a query whose walks go straight, by a delegation to two name servers that answer alike.
-use Rattle.std.proofs.Common.{◌≡◌, Bool, true, false, cond, List, [], ◌∷◌, refl, sym, ap, ◌∙◌, subst, inl, inr, arith}
+use Rattle.std.proofs.Common.{◌≡◌, Vec, Global, Bool, true, false, cond, List, [], ◌∷◌, refl, sym, ap, ◌∙◌, subst, inl, inr, arith}
 use Rattle.std.specs.Prelude.{codes, Option, Some, None, Contains}
 use Rattle.dns_data.specs.Name.{Labels}
 use Rattle.dns_data.specs.RrType.{type_eq}
@@ -8,12 +8,13 @@ use Rattle.dns_data.specs.declared.rdata.Rdata.TheVariants.{A, Ns}
 use Rattle.dns_data.specs.declared.rdata.Rr.{Rr}
 use Rattle.dns_data.specs.declared.rr_type.RrType.{RrType}
 use Rattle.dns_data.specs.declared.rr_type.RrType.TheVariants as types
-use Rattle.dns_data.proofs.Membership.{each_along, has_first, has_later}
+use Rattle.dns_data.proofs.Membership.{each_along, has_first, has_later, none_in_nil}
 use Rattle.net_model.specs.declared.deps.Deps.{Deps}
 use Rattle.net_model.specs.Step.{Setting, following}
 use Rattle.net_model.specs.declared.config.Config.{Config}
 use Rattle.net_model.specs.declared.config.Server.{Server}
 use Rattle.net_model.specs.declared.config.Zone.{Zone}
+use Rattle.net_model.specs.declared.fault.Fault.{Fault}
 use Rattle.net_model.specs.declared.place.Cut.{Cut}
 use Rattle.net_model.specs.declared.walk.Hop.TheVariants.{Refer}
 use Rattle.net_model.specs.declared.walk.Leaf.{Leaf}
@@ -23,8 +24,11 @@ use Rattle.zone_lookup.specs.Sound.{IsSound}
 use Rattle.walk_laws.specs.Outcome.{HasOutcome}
 use Rattle.straight_walks.specs.Answers.{ZoneOwner, leaf_of, owner_leaf}
 use Rattle.straight_walks.specs.Ends.{IsOutcomeOf}
-use Rattle.straight_walks.specs.Straight.{GoesStraight, StepsStraight}
+use Rattle.straight_walks.specs.Faulty.{AreAbove, IsTold, faults_at}
+use Rattle.straight_walks.specs.Straight.{GoesStraight, StepsStraight, told_of}
 use Rattle.straight_walks.specs.declared.ends.StraightEnds.{StraightEnds}
+use Rattle.straight_walks.specs.declared.faulty.Faulty.{Faulty}
+use Rattle.straight_walks.proofs.ToldFlags.{sound_shows_none}
 
 abbrev t : Labels
 t = codes "t" ∷ []
@@ -92,8 +96,9 @@ delegated = record { origin = z; rrs = z_servers }
 abbrev nothing : ZoneOwner
 nothing = record { zone = delegated; owner = None }
 
-abbrev ends : StraightEnds
-ends = record { answer = Some (record { own = nothing; last = nothing }); fails = false; rewrites = 0; below = false; unnamed_below = false }
+abbrev ends_with : Vec Faulty Global → StraightEnds
+ends_with faulty =
+    record { answer = Some (record { own = nothing; last = nothing }); fails = false; faulty = faulty; rewrites = 0; below = false; unnamed_below = false }
 
 second : Contains states (behind nsa)
 second = has_later first (behind nsa ∷ behind nsb ∷ []) (behind nsa) (has_first (behind nsa) (behind nsb ∷ []))
@@ -110,7 +115,17 @@ first_sound = record { same_servers = refl; glued = refl; same_addresses = refl;
 second_sound : IsSound setting.config deps (cut nsb)
 second_sound = record { same_servers = refl; glued = refl; same_addresses = refl; independent = refl }
 
-module _ (rtype : RrType) where
+module _ (rtype : RrType) (faulty : Vec Faulty Global) (none : faulty.items ≡ []) where
+  abbrev ends : StraightEnds
+  ends = ends_with faulty
+
+  -- the referrals show no fault
+  is_told : (to : Cut) → IsSound setting.config deps to → IsTold setting.config deps (told_of www ends) to
+  is_told to sound fault has = absurd (sound_shows_none setting.config deps to sound fault has)
+
+  none_told : (fault : Fault) → Contains (told_of www ends) fault → ⊥
+  none_told fault has = none_in_nil fault (subst (λ (all : List Faulty). Contains (faults_at www all) fault) none has)
+
   -- with each type they answer so
   leaf_is : leaf_of (record { own = nothing; last = nothing }) rtype ≡ NxDomain
   leaf_is = by (type_eq rtype types.Cname) where
@@ -121,14 +136,17 @@ module _ (rtype : RrType) where
   told : IsOutcomeOf ends rtype (Some NxDomain)
   told = ap (λ (leaf : Leaf). Some leaf) leaf_is
 
-  first_goes : StepsStraight setting deps ends rtype states first
-  first_goes = (inl (inr (cut nsa, behind nsa, first_sound, refl, second)), (inl (inr (cut nsb, behind nsb, second_sound, refl, third)), tt))
+  first_goes : StepsStraight setting deps (told_of www ends) ends rtype states first
+  first_goes = (
+    inl (inr (cut nsa, behind nsa, is_told (cut nsa) first_sound, refl, second)),
+    (inl (inr (cut nsb, behind nsb, is_told (cut nsb) second_sound, refl, third)), tt),
+  )
 
   -- where the name doesn't exist
-  second_answers : StepsStraight setting deps ends rtype states (behind nsa)
+  second_answers : StepsStraight setting deps (told_of www ends) ends rtype states (behind nsa)
   second_answers = (inr (inl (NxDomain, refl, told, λ is. refl, refl)), tt)
 
-  third_answers : StepsStraight setting deps ends rtype states (behind nsb)
+  third_answers : StepsStraight setting deps (told_of www ends) ends rtype states (behind nsb)
   third_answers = (inr (inl (NxDomain, refl, told, λ is. refl, refl)), tt)
 
   -- so ends the walk by the first name server
@@ -144,6 +162,8 @@ module _ (rtype : RrType) where
         states = states;
         few = omega arith;
         begins = λ state has. each_along (Contains states) (first ∷ []) (has_first first (behind nsa ∷ behind nsb ∷ []), tt) state has;
-        steps = λ state has. each_along (StepsStraight setting deps ends rtype states) states (first_goes, (second_answers, (third_answers, tt))) state has;
+        steps = λ state has. each_along (StepsStraight setting deps (told_of www ends) ends rtype states) states (first_goes, (second_answers, (third_answers, tt))) state has;
         told = www_told;
+        shown = λ fault has. absurd (none_told fault has);
+        above = subst (AreAbove www) (sym none) tt;
       }

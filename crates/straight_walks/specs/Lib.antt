@@ -1,9 +1,11 @@
+pub use Rattle.graph_form.specs.Verdict
 pub use Rattle.net_model.specs.Shown
 pub use Rattle.net_model.specs.Tails
 pub use Rattle.net_model.specs.Tree
 pub use Rattle.walk_laws.specs.Outcome
 pub mod Answers
 pub mod Ends
+pub mod Faulty
 pub mod Marks
 pub mod Regions
 pub mod Searching

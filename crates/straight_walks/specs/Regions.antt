@@ -9,6 +9,7 @@ use Rattle.net_model.specs.declared.deps.Deps.{Deps}
 use Rattle.net_model.specs.declared.config.Config.{Config}
 use Rattle.net_model.specs.declared.config.Server.{Server}
 use Rattle.net_model.specs.declared.config.Zone.{Zone}
+use Rattle.straight_walks.specs.Faulty.{AreAbove}
 use Rattle.straight_walks.specs.Searching.{Extends, IsSearch, PassesServer, unanswered}
 use Rattle.straight_walks.specs.Straight.{NoOriginBetween}
 use Rattle.straight_walks.specs.declared.queue.Queued.{Queued}
@@ -29,14 +30,15 @@ HasEachOrigin config origins = (server : Server) → Contains config.servers ser
 abbrev pub IsSearchBelow : Config → Deps → Labels → Search → Type 0
 IsSearchBelow config deps origin searched = (query : Labels) → NoOriginBetween config origin query → IsSearch config deps query searched
 
--- the state is put at the end of those that are passed: for the origin and each name below it with no other between
--- walks go straight from it, and its server answers none of them
+-- The state is put at the end of those that are passed: for the origin and each name below it with no other between walks
+-- go straight from it, and its server answers none of them. The referrals so far that show faults are at zone cuts at or
+-- above the origin.
 pub record IsPassedMore (config : Config) (deps : Deps) (origin : Labels) (one : Queued) (before after : RegionSearch) : Type 0 where
   pub extends : Extends before.queue after.queue
   pub passed : after.passed.items ≡ before.passed.items ++ one ∷ []
   pub answering : after.answering.items ≡ before.answering.items
-  pub passes : (query : Labels) → NoOriginBetween config origin query
-      → PassesServer config deps query one.server.now before.queue (unanswered before.fails) after.queue (unanswered after.fails)
+  pub passes : AreAbove origin before.faulty.items → (query : Labels) → NoOriginBetween config origin query
+      → PassesServer config deps query one.server.now before.queue (unanswered before.fails before.faulty) after.queue (unanswered after.fails after.faulty)
 
 -- the state is put at the end of those whose servers answer, or redirect the query
 pub record IsAnsweringMore (one : Queued) (before after : RegionSearch) : Type 0 where
@@ -44,6 +46,7 @@ pub record IsAnsweringMore (one : Queued) (before after : RegionSearch) : Type 0
   pub passed : after.passed.items ≡ before.passed.items
   pub answering : after.answering.items ≡ before.answering.items ++ one ∷ []
   pub fails : after.fails ≡ before.fails
+  pub faulty : after.faulty ≡ before.faulty
 
 -- the state is looked at: it is put at the end of those that are passed, or of those whose servers answer
 abbrev pub IsLookedAt : Config → Deps → Labels → Queued → RegionSearch → RegionSearch → Type 0

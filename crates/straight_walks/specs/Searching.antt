@@ -1,6 +1,7 @@
 -- What servers reply, and searches over the states of walks: for the contracts of inner calls alone.
-use Rattle.std.specs.Prelude.{◌≡◌, ◌≢◌, ◌<◌, ◌≤◌, ◌+◌, ◌*◌, ℕ, Bool, true, false, ◌&&◌, List, [], ◌∷◌, ◌++◌, map, take, length, Contains, Option, Some, None, is_some, option_map, IfSome, ◌⊎◌}
+use Rattle.std.specs.Prelude.{◌≡◌, ◌≢◌, ◌<◌, ◌≤◌, ◌+◌, ◌*◌, ℕ, Bool, true, false, ◌&&◌, List, [], ◌∷◌, ◌++◌, map, take, length, Contains, Option, Some, None, is_some, option_map, IfSome, ◌⊎◌, if◌then◌else◌, Vec}
 use Rattle.std.specs.List.{AllByRecursion, slice_get}
+use Rattle.std.specs.Global.{Global}
 use Rattle.dns_data.specs.Name.{Labels}
 use Rattle.dns_data.specs.RrType.{type_eq}
 use Rattle.dns_data.specs.declared.rr_type.RrType.{RrType}
@@ -9,7 +10,7 @@ use Rattle.net_model.specs.declared.deps.Deps.{Deps}
 use Rattle.net_model.specs.Lookup.{ByNothing, ByRecords, deciding}
 use Rattle.net_model.specs.Nearest.{held_zone, nearest_of}
 use Rattle.net_model.specs.OpenTail.{open_deciding}
-use Rattle.net_model.specs.Shown.{is_authoritative}
+use Rattle.net_model.specs.Shown.{Shows, is_authoritative, with_lists}
 use Rattle.net_model.specs.Step.{Setting, Branch, Go, End, next, referred, start}
 use Rattle.net_model.specs.Tails.{IsUnnamedTail}
 use Rattle.net_model.specs.Walk.{IsWalk, walk_from}
@@ -21,16 +22,22 @@ use Rattle.net_model.specs.declared.place.Place.{Place}
 use Rattle.net_model.specs.declared.walk.Hop.{Hop}
 use Rattle.net_model.specs.declared.walk.Hop.TheVariants.{Refer, Rewrite}
 use Rattle.net_model.specs.declared.walk.Leaf.{Leaf}
+use Rattle.net_model.specs.declared.walk.Leaf.TheVariants as leaves
 use Rattle.net_model.specs.declared.walk.Leaf.TheVariants.{NxDomain}
+use Rattle.net_model.specs.declared.fault.Fault.{Fault}
+use Rattle.net_model.specs.declared.fault.Fault.TheVariants as faults
 use Rattle.net_model.specs.declared.walk.State.{State}
 use Rattle.net_model.specs.declared.walk.Walk.{Walk}
 use Rattle.walk_laws.specs.Outcome.{HasOutcome, outcome_of}
 use Rattle.zone_tree.specs.Tree.{ZoneTree, IsNode, name_of}
 use Rattle.zone_lookup.specs.Reply.{IsReply}
-use Rattle.zone_lookup.specs.Sound.{IsSound}
+use Rattle.zone_lookup.specs.ReferralFaults.{referral_faults}
 use Rattle.straight_walks.specs.Answers.{AnswerOwners, ZoneOwner, leaf_of, owner_leaf, zone_owner}
 use Rattle.straight_walks.specs.Ends.{IsOutcomeOf}
-use Rattle.straight_walks.specs.Straight.{EndsUnanswered, FailsOrGoes, FollowsLeast, GoesStraight, NoOriginBetween}
+use Rattle.straight_walks.specs.Faulty.{AreAbove, BranchShows, IsTold, faults_at, flag_faults, shows_some}
+use Rattle.straight_walks.specs.Straight.{FailsOrGoes, FollowsLeast, GoesStraight, NoOriginBetween, told_of}
+use Rattle.straight_walks.specs.declared.faulty.Faulty.{Faulty}
+use Rattle.straight_walks.specs.declared.faulty.ReferralFlags.{ReferralFlags}
 use Rattle.straight_walks.specs.declared.aliases.AliasEnd.{AliasEnd}
 use Rattle.straight_walks.specs.declared.ends.StraightEnds.{StraightEnds}
 use Rattle.straight_walks.specs.declared.queue.Queued.{Queued}
@@ -78,11 +85,18 @@ abbrev pub EndsWith : Setting → RrType → State → Option Leaf → Type 0
 EndsWith setting rtype from outcome =
     (numbers : List ℕ) × (walk : Walk) × (walk_from setting rtype numbers from ≡ Some walk) × (outcome_of walk.leaf ≡ outcome)
 
--- walks of the query come to the state: each walk from it is the rest of one
-abbrev pub IsComeTo : Setting → Labels → RrType → State → Type 0
-IsComeTo setting query rtype state =
-    (numbers : List ℕ) (walk : Walk) → walk_from setting rtype numbers state ≡ Some walk
-    → (whole : Walk) × IsWalk setting query rtype whole × (whole.leaf ≡ walk.leaf)
+-- the walk is the rest of one of the query: some hops come before its own, and both end alike
+pub record IsRestOfWalk (setting : Setting) (query : Labels) (rtype : RrType) (walk : Walk) : Type 0 where
+  pub whole : Walk
+  pub is_walk : IsWalk setting query rtype whole
+  pub before : List Hop
+  pub hops : whole.hops ≡ before ++ walk.hops
+  pub leaf : whole.leaf ≡ walk.leaf
+
+-- walks of the query, which begin at some top servers, come to the state: each walk from it is the rest of one
+pub record IsComeTo (setting : Setting) (query : Labels) (rtype : RrType) (state : State) : Type 0 where
+  pub tops : setting.config.tops ≢ []
+  pub rest : (numbers : List ℕ) (walk : Walk) → walk_from setting rtype numbers state ≡ Some walk → IsRestOfWalk setting query rtype walk
 
 -- ---- ends
 
@@ -108,16 +122,25 @@ AreEndsFor config query ends name found =
     ⊎ ((ends.unnamed_below ≡ true) × IsUnnamedBelow config query name × (found ≡ nothing_below ends)))
 
 -- no zone answers the query nor a name below it, no walk is rewritten, and walks fail or don't
-abbrev pub unanswered : Bool → StraightEnds
-unanswered fails = record { answer = None; fails = fails; rewrites = 0; below = true; unnamed_below = true }
+abbrev pub unanswered : Bool → Vec Faulty Global → StraightEnds
+unanswered fails faulty = record { answer = None; fails = fails; faulty = faulty; rewrites = 0; below = true; unnamed_below = true }
 
 -- the ends, and some walk ends where no zone answers
 abbrev pub failing : StraightEnds → StraightEnds
 failing ends = record ends { fails = true }
 
--- each outcome of the first is one of the second, behind no fewer rewrites
+-- the referrals that show faults are those before, with some at the end
+abbrev pub KeepsFaulty : List Faulty → List Faulty → Type 0
+KeepsFaulty before after = (more : List Faulty) × (after ≡ before ++ more)
+
+-- the referrals that show faults are those before, with some at the end whose zone cuts are at or above the query
+abbrev pub KeepsAbove : Labels → List Faulty → List Faulty → Type 0
+KeepsAbove query before after = (more : List Faulty) × (after ≡ before ++ more) × AreAbove query more
+
+-- each outcome of the first is one of the second, behind no fewer rewrites, and so is each referral that shows faults
 pub record KeepsOutcomes (before after : StraightEnds) : Type 0 where
   pub rewrites : before.rewrites ≤ after.rewrites
+  pub faulty : KeepsFaulty before.faulty.items after.faulty.items
   pub outcomes : (rtype : RrType) (outcome : Option Leaf) → IsOutcomeOf before rtype outcome → IsOutcomeOf after rtype outcome
 
 -- what a server answers behind so many rewrites is put to the ends: it is their answer then, no other outcome comes to
@@ -129,18 +152,32 @@ pub record AnswerIsPut (before : StraightEnds) (answering : AnswerOwners) (rewri
   pub there : (rtype : RrType) → IsOutcomeOf after rtype (Some (leaf_of answering rtype))
   pub only : (rtype : RrType) (outcome : Option Leaf) → IsOutcomeOf after rtype outcome
       → IsOutcomeOf before rtype outcome ⊎ (outcome ≡ Some (leaf_of answering rtype))
+  pub same_faulty : after.faulty.items ≡ before.faulty.items
   pub alone : after.below ≡ false
   pub unnamed : after.unnamed_below ≡ (before.unnamed_below && none_below)
 
 -- ---- referrals
 
--- a referral's branch to the name server, from a state at the cut's server
+-- the referral's faults are those that are told of it, and that it is lame where walks end so
+pub record AreFlagsOf (config : Config) (deps : Deps) (cut : Cut) (lame : Bool) (flags : ReferralFlags) : Type 0 where
+  pub lame_is : flags.lame ≡ lame
+  pub each : IsTold config deps (flag_faults flags cut) cut
+  pub only : (fault : Fault) → Contains (flag_faults flags cut) fault → Contains (referral_faults config deps cut) fault ⊎ ((fault ≡ faults.Lame cut) × (lame ≡ true))
+
+-- the leaf in which walks end at a name server: that it is lame, or isn't configured
+abbrev pub outer_leaf : Bool → Labels → Leaf
+outer_leaf lame ns = if lame then leaves.Lame ns else leaves.Unhosted ns
+
+-- a referral's branch to the name server, from the query's state at the cut's server, and the faults that it shows
 abbrev pub IsReferral : Config → Deps → Labels → Cut → Referral → Type 0
-IsReferral config deps query cut referral.Ends =
-    (setting : Setting) (state : State) → IsSettingOf config deps setting → EndsUnanswered setting.config deps (referred setting state cut)
-IsReferral config deps query cut referral.GoesOn =
-    (setting : Setting) (above : ℕ) → IsSettingOf config deps setting
-    → IsSound setting.config deps cut × (referred setting (state_at config query cut.server above) cut ≡ Go (Refer cut) (state_at config query cut.ns (length cut.cut)))
+IsReferral config deps query cut (referral.Ends flags) =
+    AreFlagsOf config deps cut flags.lame flags
+    × ((setting : Setting) (above : ℕ) → IsSettingOf config deps setting
+    → referred setting (state_at config query cut.server above) cut ≡ End (Some (Refer cut)) (outer_leaf flags.lame cut.ns))
+IsReferral config deps query cut (referral.GoesOn flags) =
+    AreFlagsOf config deps cut false flags
+    × ((setting : Setting) (above : ℕ) → IsSettingOf config deps setting
+    → referred setting (state_at config query cut.server above) cut ≡ Go (Refer cut) (state_at config query cut.ns (length cut.cut)))
 IsReferral config deps query cut referral.Unclear = Unit {0}
 
 -- the name server of a zone cut, in a referral from a server
@@ -151,27 +188,49 @@ cut_to server zone cut ns = record { server = server; zone = zone.origin; cut = 
 abbrev pub to_servers : Zone → Labels → List Labels → Setting → State → List Branch
 to_servers zone cut names setting state = map (λ ns. referred setting state (cut_to state.server zone cut ns)) names
 
--- the referrals of a zone cut to these name servers, from the query's state at a server, show no fault, and end where
--- no zone answers or go on to queued states; no other states come to the queue, and walks fail only where one of them
--- ends
-pub record AreReferrals (config : Config) (deps : Deps) (query server : Labels) (zone : Zone) (cut : Labels) (names : List Labels) (before : List Queued) (fails_before : Bool) (after : List Queued) (fails : Bool) : Type 0 where
-  pub extends : Extends before after
-  pub still : fails_before ≡ true → fails ≡ true
+-- What a search knows before a step and behind it: the queue, whether walks fail, and the referrals that show faults.
+pub record Known : Type 0 where
+  pub queue : List Queued
+  pub fails : Bool
+  pub faulty : List Faulty
+
+-- the referrals of a zone cut to these name servers, from the query's state at a server, end where no zone answers or go
+-- on to queued states, and their faults are told; no other states come to the queue, walks fail only where one of them
+-- ends, and no other faults are told
+pub record AreReferrals (config : Config) (deps : Deps) (query server : Labels) (zone : Zone) (cut : Labels) (names : List Labels) (before after : Known) : Type 0 where
+  pub extends : Extends before.queue after.queue
+  pub still : before.fails ≡ true → after.fails ≡ true
+  pub keeps : KeepsAbove query before.faulty after.faulty
   pub each : (setting : Setting) (above : ℕ) → IsSettingOf config deps setting
-      → AllByRecursion (FailsOrGoes setting.config deps fails (map (queued_state config query) after)) (to_servers zone cut names setting (state_at config query server above))
-  pub leads : (one : Queued) → Contains after one → Contains before one
+      → AllByRecursion (FailsOrGoes setting.config deps (faults_at query after.faulty) after.fails (map (queued_state config query) after.queue))
+      (to_servers zone cut names setting (state_at config query server above))
+  pub leads : (one : Queued) → Contains after.queue one → Contains before.queue one
       ⊎ ((setting : Setting) (above : ℕ) → IsSettingOf config deps setting
       → (hop : Hop) × Contains (to_servers zone cut names setting (state_at config query server above)) (Go hop (queued_state config query one)))
-  pub told : fails ≡ true → (fails_before ≡ true)
+  pub told : after.fails ≡ true → (before.fails ≡ true)
       ⊎ ((setting : Setting) (above : ℕ) → IsSettingOf config deps setting
       → (hop : Option Hop) × (leaf : Leaf) × Contains (to_servers zone cut names setting (state_at config query server above)) (End hop leaf) × (outcome_of leaf ≡ None))
+  pub shown : (fault : Fault) → Contains (faults_at query after.faulty) fault → Contains (faults_at query before.faulty) fault
+      ⊎ ((setting : Setting) (above : ℕ) → IsSettingOf config deps setting
+      → (branch : Branch) × Contains (to_servers zone cut names setting (state_at config query server above)) branch × BranchShows setting.config deps branch fault)
 
--- walks end at the name server of the zone cut of a tree, and the referral shows no fault, from any server that holds the
--- zone and for any query
+-- the referral is put behind the others, if it shows faults
+abbrev pub IsFaultyPut : Labels → Zone → Labels → Labels → ReferralFlags → List Faulty → List Faulty → Type 0
+IsFaultyPut server zone cut ns flags before after =
+    ((shows_some flags ≡ false) × (after ≡ before))
+    ⊎ ((one : Faulty) × (one.flags ≡ flags) × (one.server.now ≡ server) × (one.zone.now ≡ zone.origin) × (one.cut ≡ length cut) × (one.ns.now ≡ ns)
+    × (after ≡ before ++ one ∷ []))
+
+-- no fault is told of a referral
+abbrev pub no_flags : ReferralFlags
+no_flags = record { lame = false; differs = false; no_glue = false; glue_differs = false }
+
+-- walks end at the name server of the zone cut of a tree, which isn't configured, and the referral shows no fault, from any
+-- server that holds the zone and for any query
 abbrev pub EndsOutside : Config → ZoneTree → ℕ → Labels → Type 0
 EndsOutside config tree cut ns =
     (deps : Deps) (query server : Labels) → held_zone config server tree.zone.origin ≡ Some tree.zone
-    → IsReferral config deps query (cut_to server tree.zone (name_of tree cut) ns) referral.Ends
+    → IsReferral config deps query (cut_to server tree.zone (name_of tree cut) ns) (referral.Ends no_flags)
 
 -- the zone cut has a name server, and walks end at each of its name servers by a referral that shows no fault
 abbrev pub AllEndOutside : Config → ZoneTree → ℕ → Type 0
@@ -259,9 +318,9 @@ EndsAnswered setting ends rtype state =
 
 -- walks with the type go straight from the state: each branch ends where no zone answers, which is one of the ends, or
 -- goes on to one of the states; or they end in an answer
-abbrev pub PassesState : Setting → Deps → StraightEnds → RrType → List State → State → Type 0
-PassesState setting deps ends rtype states state =
-    AllByRecursion (FailsOrGoes setting.config deps ends.fails states) (next setting rtype state) ⊎ EndsAnswered setting ends rtype state
+abbrev pub PassesState : Setting → Deps → List Fault → StraightEnds → RrType → List State → State → Type 0
+PassesState setting deps told ends rtype states state =
+    AllByRecursion (FailsOrGoes setting.config deps told ends.fails states) (next setting rtype state) ⊎ EndsAnswered setting ends rtype state
 
 -- the setting is one of the configuration in which a walk may be rewritten as often as the ends tell
 pub record IsSettingFor (config : Config) (deps : Deps) (ends : StraightEnds) (setting : Setting) : Type 0 where
@@ -273,13 +332,17 @@ pub record IsSettingFor (config : Config) (deps : Deps) (ends : StraightEnds) (s
 pub record PassesServer (config : Config) (deps : Deps) (query server : Labels) (before : List Queued) (ends_before : StraightEnds) (after : List Queued) (ends : StraightEnds) : Type 0 where
   pub extends : Extends before after
   pub still : KeepsOutcomes ends_before ends
+  pub above : AreAbove query ends_before.faulty.items → AreAbove query ends.faulty.items
   pub steps : (setting : Setting) (rtype : RrType) (above : ℕ) → IsSettingFor config deps ends setting
-      → PassesState setting deps ends rtype (map (queued_state config query) after) (state_at config query server above)
+      → PassesState setting deps (told_of query ends) ends rtype (map (queued_state config query) after) (state_at config query server above)
   pub leads : (one : Queued) → Contains after one → Contains before one
       ⊎ ((setting : Setting) (rtype : RrType) (above : ℕ) → IsSettingOf config deps setting
       → LeadsOn setting rtype (state_at config query server above) (queued_state config query one))
   pub told : (rtype : RrType) (outcome : Option Leaf) → IsOutcomeOf ends rtype outcome → IsOutcomeOf ends_before rtype outcome
       ⊎ ((setting : Setting) (above : ℕ) → IsSettingFor config deps ends setting → EndsWith setting rtype (state_at config query server above) outcome)
+  pub shown : (fault : Fault) → Contains (told_of query ends) fault → Contains (told_of query ends_before) fault
+      ⊎ ((setting : Setting) (rtype : RrType) (above : ℕ) → IsSettingOf config deps setting
+      → (branch : Branch) × Contains (next setting rtype (state_at config query server above)) branch × BranchShows setting.config deps branch fault)
 
 -- ---- searches
 
@@ -288,23 +351,27 @@ abbrev pub IsBegun : Config → Labels → List Queued → Bool → Labels → T
 IsBegun config query queue fails top =
     Contains (map (queued_state config query) queue) (state_at config query top 0) ⊎ ((fails ≡ true) × (nearest_of config top query ≡ None))
 
--- The state at each top server is queued for the query, unless the server holds no zone for it, and no other state is. Walks
--- fail only where a top server holds none.
+-- The state at each top server is queued for the query, unless the server holds no zone for it, and no other state is.
+-- Walks fail only where a top server holds none.
 pub record BeginsAtTops (config : Config) (query : Labels) (queue : List Queued) (fails : Bool) : Type 0 where
   pub each : (top : Labels) → Contains config.tops top → IsBegun config query queue fails top
   pub only : (one : Queued) → Contains queue one → Contains (start config query) (queued_state config query one)
   pub told : fails ≡ true → (top : Labels) × Contains config.tops top × (nearest_of config top query ≡ None)
 
 -- The state at each top server is queued for the query, or the server holds no zone for it, and walks fail. Walks come to
--- each queued state; from those that are passed walks go straight, and the query has the outcomes of the ends.
+-- each queued state; from those that are passed walks go straight, and the query has the outcomes of the ends and shows
+-- their faults.
 pub record HasWalked (config : Config) (deps : Deps) (query : Labels) (queue passed : List Queued) (ends : StraightEnds) : Type 0 where
   pub begins : (top : Labels) → Contains config.tops top → IsBegun config query queue ends.fails top
   pub comes : (setting : Setting) (rtype : RrType) → IsSettingOf config deps setting → (one : Queued) → Contains queue one
       → IsComeTo setting query rtype (queued_state config query one)
   pub steps : (setting : Setting) (rtype : RrType) → IsSettingFor config deps ends setting
-      → AllByRecursion (PassesState setting deps ends rtype (map (queued_state config query) queue)) (map (queued_state config query) passed)
+      → AllByRecursion (PassesState setting deps (told_of query ends) ends rtype (map (queued_state config query) queue)) (map (queued_state config query) passed)
   pub told : (setting : Setting) (rtype : RrType) (outcome : Option Leaf) → IsSettingFor config deps ends setting → IsOutcomeOf ends rtype outcome
       → HasOutcome setting query rtype outcome
+  pub shown : (setting : Setting) (rtype : RrType) (fault : Fault) → IsSettingOf config deps setting → Contains (told_of query ends) fault
+      → Shows (with_lists setting deps.least deps.greatest) query rtype fault
+  pub above : AreAbove query ends.faulty.items
 
 -- the first queued states, as many as said, are passed
 pub record HasPassed (config : Config) (deps : Deps) (query : Labels) (queue : List Queued) (passed : ℕ) (ends : StraightEnds) : Type 0 where
@@ -313,7 +380,7 @@ pub record HasPassed (config : Config) (deps : Deps) (query : Labels) (queue : L
 
 -- the search is one for the name, and no zone has answered yet
 abbrev pub IsSearch : Config → Deps → Labels → Search → Type 0
-IsSearch config deps query searched = HasPassed config deps query searched.queue.items searched.passed (unanswered searched.fails)
+IsSearch config deps query searched = HasPassed config deps query searched.queue.items searched.passed (unanswered searched.fails searched.faulty)
 
 -- the statement holds of each name whose ends are told by these of the query, and of that name's ends
 abbrev pub HoldsOfEachTold : Config → Labels → (Labels → StraightEnds → Type 0) → StraightEnds → Type 0

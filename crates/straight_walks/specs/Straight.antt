@@ -1,23 +1,25 @@
--- Queries whose walks go straight: by delegations and by rewrites in one server, to ends that show no fault, where all
--- servers answer alike.
+-- Queries whose walks go straight: by delegations and by rewrites in one server, to ends where all servers answer alike,
+-- and the faults of their referrals.
 use Rattle.std.specs.Prelude.{◌≡◌, ◌<◌, ◌≤◌, ℕ, Bool, true, List, ◌⊎◌, length, Option, Some, None, Contains}
 use Rattle.std.specs.List.{AllByRecursion, list_any}
 use Rattle.dns_data.specs.Name.{Labels, is_prefix, name_eq}
 use Rattle.dns_data.specs.declared.rr_type.RrType.{RrType}
 use Rattle.net_model.specs.declared.deps.Deps.{Deps}
 use Rattle.net_model.specs.Nearest.{held_zone, is_configured}
-use Rattle.net_model.specs.Shown.{is_authoritative}
+use Rattle.net_model.specs.Shown.{Shows, is_authoritative, with_lists}
 use Rattle.net_model.specs.Step.{Setting, Branch, Go, End, next, start}
 use Rattle.net_model.specs.declared.config.Config.{Config}
+use Rattle.net_model.specs.declared.fault.Fault.{Fault}
+use Rattle.net_model.specs.declared.fault.Fault.TheVariants as faults
 use Rattle.net_model.specs.declared.place.Cut.{Cut}
 use Rattle.net_model.specs.declared.place.Place.{Place}
 use Rattle.net_model.specs.declared.walk.Hop.TheVariants.{Refer, Rewrite}
 use Rattle.net_model.specs.declared.walk.Leaf.{Leaf}
-use Rattle.net_model.specs.declared.walk.Leaf.TheVariants.{NxDomain, Outside, Unhosted}
+use Rattle.net_model.specs.declared.walk.Leaf.TheVariants.{Lame, NxDomain, Outside, Unhosted}
 use Rattle.net_model.specs.declared.walk.State.{State}
 use Rattle.walk_laws.specs.Outcome.{HasOutcome}
-use Rattle.zone_lookup.specs.Sound.{IsSound}
 use Rattle.straight_walks.specs.Ends.{IsOutcomeOf}
+use Rattle.straight_walks.specs.Faulty.{AreAbove, IsTold, faults_at}
 use Rattle.straight_walks.specs.declared.ends.StraightEnds.{StraightEnds}
 
 -- the name is at or below the other, and no server has a zone with a longer origin at or above the name
@@ -30,19 +32,22 @@ abbrev pub NoOriginBelow : Config → Labels → Type 0
 NoOriginBelow config upper =
     (server longer : Labels) → is_prefix upper longer ≡ true → length upper < length longer → held_zone config server longer ≡ None
 
--- the branch ends where no zone answers: its server holds none for the name, or the name server isn't configured
-abbrev pub EndsUnanswered : Config → Deps → Branch → Type 0
-EndsUnanswered config deps branch =
-    (branch ≡ End None Outside) ⊎ ((cut : Cut) × IsSound config deps cut × (branch ≡ End (Some (Refer cut)) (Unhosted cut.ns)))
+-- the branch ends where no zone answers: its server holds none for the name; or the name server isn't configured, or has
+-- no zone at or below the zone cut, which is told. The faults of the referral are told.
+abbrev pub EndsUnanswered : Config → Deps → List Fault → Branch → Type 0
+EndsUnanswered config deps told branch =
+    (branch ≡ End None Outside)
+    ⊎ ((cut : Cut) × IsTold config deps told cut
+    × ((branch ≡ End (Some (Refer cut)) (Unhosted cut.ns)) ⊎ (Contains told (faults.Lame cut) × (branch ≡ End (Some (Refer cut)) (Lame cut.ns)))))
 
 -- the branch ends where a zone answers what the ends have with the type; the name exists where a rewrite led to the state
 abbrev pub EndsInAnswer : StraightEnds → RrType → State → Branch → Type 0
 EndsInAnswer ends rtype state branch =
     (leaf : Leaf) × (is_authoritative leaf ≡ true) × IsOutcomeOf ends rtype (Some leaf) × (leaf ≡ NxDomain → state.last ≡ None) × (branch ≡ End None leaf)
 
--- the branch goes on by a referral to one of these states
-abbrev pub GoesTo : Config → Deps → List State → Branch → Type 0
-GoesTo config deps states branch = (cut : Cut) × (to : State) × IsSound config deps cut × (branch ≡ Go (Refer cut) to) × Contains states to
+-- the branch goes on by a referral to one of these states, and the referral's faults are told
+abbrev pub GoesTo : Config → Deps → List Fault → List State → Branch → Type 0
+GoesTo config deps told states branch = (cut : Cut) × (to : State) × IsTold config deps told cut × (branch ≡ Go (Refer cut) to) × Contains states to
 
 -- the branch goes on by a rewrite to one of these states
 abbrev pub GoesByRewrite : List State → Branch → Type 0
@@ -50,28 +55,34 @@ GoesByRewrite states branch =
     (place : Place) × (by_dname : Bool) × (target : Labels) × (to : State) × (branch ≡ Go (Rewrite place by_dname target) to) × Contains states to
 
 -- the branch ends where no zone answers, and walks fail; or it goes on by a referral to one of the states
-abbrev pub FailsOrGoes : Config → Deps → Bool → List State → Branch → Type 0
-FailsOrGoes config deps fails states branch = ((fails ≡ true) × EndsUnanswered config deps branch) ⊎ GoesTo config deps states branch
+abbrev pub FailsOrGoes : Config → Deps → List Fault → Bool → List State → Branch → Type 0
+FailsOrGoes config deps told fails states branch = ((fails ≡ true) × EndsUnanswered config deps told branch) ⊎ GoesTo config deps told states branch
 
-module _ (setting : Setting) (deps : Deps) (ends : StraightEnds) (rtype : RrType) (states : List State) where
+module _ (setting : Setting) (deps : Deps) (told : List Fault) (ends : StraightEnds) (rtype : RrType) (states : List State) where
   -- a branch of the state fails as the ends do or goes on by a referral to one of the states; or it ends with the type
   -- in the answer of the ends, or goes on by a rewrite to one of the states
   abbrev pub BranchStraight : State → Branch → Type 0
   BranchStraight state branch =
-      FailsOrGoes setting.config deps ends.fails states branch ⊎ (EndsInAnswer ends rtype state branch ⊎ GoesByRewrite states branch)
+      FailsOrGoes setting.config deps told ends.fails states branch ⊎ (EndsInAnswer ends rtype state branch ⊎ GoesByRewrite states branch)
 
   -- each branch of the state does so
   abbrev pub StepsStraight : State → Type 0
   StepsStraight state = AllByRecursion (BranchStraight state) (next setting rtype state)
 
+-- the faults that the ends tell of a query
+abbrev pub told_of : Labels → StraightEnds → List Fault
+told_of query ends = faults_at query ends.faulty.items
+
 -- the walks of the query with the type go straight: they reach at most so many states, all zones that answer tell the
--- same, and the query has the outcomes of these ends
+-- same, and the query has the outcomes of these ends and shows their faults
 pub record GoesStraight (setting : Setting) (deps : Deps) (most : ℕ) (query : Labels) (ends : StraightEnds) (rtype : RrType) : Type 0 where
   pub states : List State
   pub few : length states ≤ most
   pub begins : (state : State) → Contains (start setting.config query) state → Contains states state
-  pub steps : (state : State) → Contains states state → StepsStraight setting deps ends rtype states state
+  pub steps : (state : State) → Contains states state → StepsStraight setting deps (told_of query ends) ends rtype states state
   pub told : (outcome : Option Leaf) → IsOutcomeOf ends rtype outcome → HasOutcome setting query rtype outcome
+  pub shown : (fault : Fault) → Contains (told_of query ends) fault → Shows (with_lists setting deps.least deps.greatest) query rtype fault
+  pub above : AreAbove query ends.faulty.items
 
 -- of the configured servers those of the least set are followed
 abbrev pub FollowsLeast : Setting → Deps → Type 0

@@ -5,17 +5,19 @@ ghost use Rattle.straight_walks.specs.Ends.{answers_alike, ends_alike};
 ghost use Rattle.straight_walks.specs.Searching.{AnswerIsPut, failing};
 
 use crate::answers::ZoneAnswer;
+use crate::faulty::Faulty;
 use dns_data::RrType;
 
 /// What walks end in that go straight. Each server that answers answers this; there is none if no walk ends in an answer.
-/// It fails if some walk ends where no server answers. No walk is rewritten more often than so. With `below` these are the
-/// ends too of each name below the query that has no origin of a zone between. With `unnamed_below` it is known what walks
-/// end in of the query with any unnamed tail: a name below it, of which the configuration names no front longer than the
-/// query.
+/// It fails if some walk ends where no server answers. The referrals that show faults are those by which the query shows
+/// some; it shows no others. No walk is rewritten more often than so. With `below` these are the ends too of each name
+/// below the query that has no origin of a zone between. With `unnamed_below` it is known what walks end in of the query
+/// with any unnamed tail: a name below it, of which the configuration names no front longer than the query.
 #[derive(Drop)]
 pub struct StraightEnds<'h, 'a> {
     pub answer: Option<ZoneAnswer<'h, 'a>>,
     pub fails: bool,
+    pub faulty: Vec<Faulty<'a>>,
     pub rewrites: u32,
     pub below: bool,
     pub unnamed_below: bool,

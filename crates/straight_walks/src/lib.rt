@@ -1,15 +1,16 @@
-//! Queries whose walks go straight: by delegations, and by rewrites in one server, to ends that show no fault, where all
-//! servers answer alike.
+//! Queries whose walks go straight: by delegations, and by rewrites in one server, to ends where all servers answer alike.
+//! Walks go on past referrals that show faults.
 //!
-//! The layer above may rest on this: where `straight_ends` gives what the walks of a query end in, the query shows no
-//! fault, reaches no more pairs of state and type than are allowed, and has the outcomes of these ends and no others.
-//! Where it is told that these are the ends of the names below too that have no origin of a zone between, these names
-//! show no fault either; nor does the query with any unnamed tail, where it is told that its ends are known too. Where it
-//! gives nothing, nothing is said. Ends of two configurations can be compared, type by type.
+//! The layer above may rest on this: where `straight_ends` gives what the walks of a query end in, the query shows the
+//! faults that the ends tell and no others, reaches no more pairs of state and type than are allowed, and has the outcomes
+//! of these ends and no others. Where it is told that these are the ends of the names below too that have no origin of a
+//! zone between, these names show the same faults; so does the query with any unnamed tail, where it is told that its ends
+//! are known too. Where it gives nothing, nothing is said. Ends of two configurations can be compared, type by type.
 //!
-//! Costs: for each origin of a zone, once, what decides at it is looked for at each of at most 4,096 states, and each
-//! name server of a zone cut is looked into: of one that isn't configured its glue alone is looked for, beside the zone
-//! cut, and nothing is copied; for one that is, four names are lent. Of more than 32 top servers those are looked at
+//! Costs: for each origin of a zone, once, what decides at it is looked for at each of at most 4,096 states; each zone cut
+//! is looked for in a table of what its referrals show, once for each state, and each of its name servers is looked into:
+//! four names are lent. A referral takes memory only where it shows faults: 40 octets for the origin, and as many in each
+//! query's ends. Of more than 32 top servers those are looked at
 //! that hold a zone at or above the origin: a table gives them that is made once, by the origins of the top servers'
 //! zones, and each front of the origin is looked for in it. At the others a walk ends at once; they are counted with the
 //! states, and neither queued nor kept. A state is found among more than 32 in a set. An origin keeps 32 octets of each
@@ -38,6 +39,7 @@ mod answers;
 mod asked;
 mod below;
 mod ends;
+mod faulty;
 mod name_server;
 mod origins;
 mod queue;
@@ -46,9 +48,11 @@ mod referring;
 mod region;
 mod regions;
 mod searching;
+mod shown_faults;
 mod straight;
 
 pub use answers::ZoneAnswer;
 pub use ends::StraightEnds;
+pub use faulty::{Faulty, ReferralFlags};
 pub use regions::Regions;
 pub use straight::straight_ends;

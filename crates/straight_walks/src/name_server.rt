@@ -1,29 +1,26 @@
 //! Referrals to one name server.
 
-ghost use Rattle.std.specs.Borrow.{Bor};
-ghost use Rattle.std.specs.Prelude.{◌≡◌, ℕ, true, Some, None, IfOk};
-ghost use Rattle.dns_data.specs.Name.{Labels, is_prefix};
-ghost use Rattle.net_model.specs.declared.deps.Deps.{Deps};
-ghost use Rattle.net_model.specs.Nearest.{held_zone, server_named};
-ghost use Rattle.net_model.specs.declared.config.Config.{Config};
-ghost use Rattle.net_model.specs.Step.{following};
-ghost use Rattle.zone_lookup.specs.declared.leads.Lead.TheVariants as lead;
-ghost use Rattle.zone_lookup.specs.Leads.{IsLead};
+ghost use Rattle.std.specs.Prelude.{◌≡◌, ◌&&◌, false, not, true};
+ghost use Rattle.dns_data.specs.Name.{is_prefix};
+ghost use Rattle.net_model.specs.Zone.{has_address};
 ghost use Rattle.zone_lookup.specs.LentCut.{cut_of};
-ghost use Rattle.zone_tree.specs.Tree.{ZoneTree, IsNode, name_of};
+ghost use Rattle.zone_tree.specs.Tree.{IsNode, name_of};
+ghost use Rattle.straight_walks.specs.Faulty.{AreToldOf};
 ghost use Rattle.straight_walks.specs.Searching.{EndsOutside, IsReferral};
 
-use dns_data::{Name, NoMemory};
-use std::alloc::Global;
-use zone_lookup::{Hosts, LearntSets, LentCut, has_glue_below};
+use crate::asked::Asked;
+use crate::faulty::ReferralFlags;
+use dns_data::Name;
+use zone_lookup::{CutFlags, Hosts, Lead, LentCut, Walker, has_glue_below};
 use zone_tree::{NodeId, Tree};
 
-/// A referral to a name server that shows no fault: walks end there, since it isn't configured, or go on to it. Of other
-/// referrals nothing is said.
+/// A referral to a name server, with the faults that it shows: walks end there, since it isn't configured or has no zone at
+/// or below the zone cut, or go on to it. Of other referrals nothing is said, such as of those to a name server without an
+/// address: it may have one where more servers are followed, and walks would go on to it.
 #[derive(Clone, Copy)]
 pub(crate) enum Referral {
-    Ends,
-    GoesOn,
+    Ends(ReferralFlags),
+    GoesOn(ReferralFlags),
     Unclear,
 }
 
@@ -36,43 +33,32 @@ pub(crate) fn ends_outside(hosts: &Hosts<'_>, tree: &Tree<'_>, cut: NodeId, ns: 
 {
     match hosts.host(ns) {
         Some(_) => false,
-        None => match referral_to_unhosted(tree, cut, ns) {
-            Referral::Ends => true,
-            Referral::GoesOn | Referral::Unclear => false,
-        },
+        None => is_glued(tree, cut, ns),
     }
 }
 
-/// The referral of the query to the cut's name server, which leads there so while the servers of the least set are followed.
-pub(crate) fn referral_on(
-    alloc: Global,
-    hosts: &Hosts<'_>,
-    sets: &LearntSets,
-    cut: LentCut<'_>,
-) -> Result<Referral, NoMemory>
-    requires { is_prefix cut.zone.now cut.cut.now ≡ true }
-    ensures { IfOk result (λ referral. (rewrites : ℕ) (query : Labels) (tree : Bor ZoneTree)
-        → IsLead (following hosts.now rewrites sets.now.least) (cut_of cut.entry) query (lead.Goes tree) → IsReferral hosts.now sets.now query (cut_of cut.entry) referral) }
-{
-    if sets.is_sound(alloc, hosts, cut)? {
-        Ok(Referral::GoesOn)
-    } else {
-        Ok(Referral::Unclear)
-    }
-}
-
-/// The referral to a name server that isn't configured: walks end there, and it shows no fault unless it wants glue.
-pub(crate) fn referral_to_unhosted(tree: &Tree<'_>, cut: NodeId, ns: &Name) -> Referral
+/// Whether the name server isn't at or below the zone cut, or has glue.
+fn is_glued(tree: &Tree<'_>, cut: NodeId, ns: &Name) -> bool
     requires node { IsNode tree.now cut }
     requires inside { is_prefix tree.now.zone.origin (name_of tree.now cut) ≡ true }
-    ensures { (config : Config) (deps : Deps) (query server : Labels) → held_zone config server tree.now.zone.origin ≡ Some tree.now.zone → server_named config ns.now ≡ None
-        → IsReferral config deps query (record { server = server; zone = tree.now.zone.origin; cut = name_of tree.now cut; ns = ns.now }) result }
+    ensures { result ≡ true → (is_prefix (name_of tree.now cut) ns.now && not (has_address tree.now.zone ns.now)) ≡ false }
 {
     if !tree.name(cut).is_prefix_of(ns) {
-        return Referral::Ends;
+        return true;
     }
-    if has_glue_below(tree, cut, ns) {
-        return Referral::Ends;
+    has_glue_below(tree, cut, ns)
+}
+
+/// The referral of the query to a name server of a zone cut, of which it is told what it shows.
+pub(crate) fn referral_to(asked: Asked<'_, '_, '_>, to: LentCut<'_>, told: CutFlags) -> Referral
+    requires inside { is_prefix to.zone.now to.cut.now ≡ true }
+    requires told { AreToldOf asked.hosts.now (cut_of to) told }
+    ensures { IsReferral asked.entry.hosts.now asked.entry.sets.now asked.entry.name.now (cut_of to.entry) result }
+{
+    match Walker::following_least(asked.hosts, 0, asked.sets).leads(to, asked.name) {
+        Lead::Goes(_) => Referral::GoesOn(ReferralFlags::of(told, false)),
+        Lead::Unhosted => Referral::Ends(ReferralFlags::of(told, false)),
+        Lead::Lame => Referral::Ends(ReferralFlags::of(told, true)),
+        Lead::NoAddress => Referral::Unclear,
     }
-    Referral::Unclear
 }

@@ -1,19 +1,21 @@
 //! The referrals of a zone cut.
 
-ghost use Rattle.std.specs.Prelude.{◌≡◌, true, Some, IfOk};
+ghost use Rattle.std.specs.Prelude.{◌≡◌, true, Some, IfOk, OnOk};
+ghost use Rattle.std.specs.Option.{option_map};
 ghost use Rattle.dns_data.specs.Name.{is_prefix};
 ghost use Rattle.net_model.specs.Nearest.{held_zone};
 ghost use Rattle.net_model.specs.Zone.{ns_names};
 ghost use Rattle.zone_tree.specs.Tree.{IsNode, name_of};
-ghost use Rattle.zone_lookup.specs.LentCut.{cut_of};
-ghost use Rattle.straight_walks.specs.Searching.{AllEndOutside, AreReferrals, IsReferral, cut_to};
+ghost use Rattle.zone_lookup.specs.CutTable.{IsTableOf};
+ghost use Rattle.straight_walks.specs.Faulty.{flags_at};
+ghost use Rattle.straight_walks.specs.Searching.{AllEndOutside, AreReferrals, IsFaultyPut};
 
 use crate::asked::Asked;
-use crate::name_server::{Referral, ends_outside, referral_on, referral_to_unhosted};
+use crate::faulty::{Faulty, ReferralFlags};
+use crate::name_server::{Referral, ends_outside, referral_to};
 use crate::queue::Queue;
 use dns_data::{Name, NoMemory};
-use std::alloc::Global;
-use zone_lookup::{Hosts, Lead, LentCut, Walker};
+use zone_lookup::{CutFlags, Hosts, LentCut, Near};
 use zone_tree::{NodeId, Tree};
 
 /// Whether none of the name servers of a zone cut is configured, so that walks end at all of them, and the referrals are
@@ -32,57 +34,103 @@ pub(crate) fn all_end_outside(hosts: &Hosts<'_>, tree: &Tree<'_>, cut: NodeId) -
     !servers.is_empty()
 }
 
-/// Whether the referrals of a zone cut from a server are seen to show no fault. The states at its name servers that are
-/// configured are queued then; and walks fail that end at one that isn't.
+/// A server that refers a name, with the zone cut by which it does, and a place near which the zone is looked for.
+#[derive(Clone, Copy)]
+pub(crate) struct Referring<'h, 'a> {
+    pub server: &'a Name,
+    pub near: Near,
+    pub tree: &'h Tree<'a>,
+    pub cut: NodeId,
+}
+
+/// Whether walks are seen to go straight by the referrals of a zone cut from a server. The states at its name servers to
+/// which walks go on are queued then; walks fail that end at one; and the referrals that show faults are put to the others.
 pub(crate) fn queue_referrals<'a>(
-    alloc: Global,
     asked: Asked<'_, '_, 'a>,
-    server: &Name,
-    tree: &Tree<'a>,
-    cut: NodeId,
+    from: Referring<'_, 'a>,
     queue: &mut Queue<'a>,
     fails: &mut bool,
+    faulty: &mut Vec<Faulty<'a>>,
 ) -> Result<bool, NoMemory>
-    requires node { IsNode tree.now cut }
-    requires inside { is_prefix tree.now.zone.origin (name_of tree.now cut) ≡ true }
-    requires held { held_zone asked.hosts.now server.now tree.now.zone.origin ≡ Some tree.now.zone }
-    ensures { IfOk result (λ straight. straight ≡ true
-        → AreReferrals asked.entry.hosts.now asked.entry.sets.now asked.entry.name.now server.now tree.now.zone (name_of tree.now cut) (ns_names tree.now.zone (name_of tree.now cut)) queue.old fails.old queue.new fails.new) }
+    requires table { IsTableOf asked.hosts.now asked.sets.now asked.table.now }
+    requires node { IsNode from.tree.now from.cut }
+    requires inside { is_prefix from.tree.now.zone.origin (name_of from.tree.now from.cut) ≡ true }
+    requires above { is_prefix (name_of from.tree.now from.cut) asked.name.now ≡ true }
+    requires held { held_zone asked.hosts.now from.server.now from.tree.now.zone.origin ≡ Some from.tree.now.zone }
+    ensures { IfOk result (λ straight. straight ≡ true → AreReferrals asked.entry.hosts.now asked.entry.sets.now asked.entry.name.now
+        from.entry.server.now from.entry.tree.now.zone (name_of from.entry.tree.now from.entry.cut) (ns_names from.entry.tree.now.zone (name_of from.entry.tree.now from.entry.cut))
+        (record { queue = queue.old; fails = fails.old; faulty = faulty.old.items }) (record { queue = queue.new; fails = fails.new; faulty = faulty.new.items })) }
 {
+    let Referring {
+        server,
+        near,
+        tree,
+        cut,
+    } = from;
     let owner = tree.name(cut);
-    for ns in tree.name_servers(cut) {
+    let shown = asked.table.told(near, server, tree, cut);
+    let servers = tree.name_servers(cut);
+    for (number, ns) in servers.iter().enumerate() {
         let to = LentCut {
             server,
             zone: &tree.zone().origin,
             cut: owner,
             ns,
         };
-        match referral_to(alloc, asked, tree, cut, to)? {
-            Referral::Ends => *fails = true,
-            Referral::GoesOn => queue.put(asked.hosts, asked.name, ns, owner.len())?,
+        match referral_to(asked, to, flags_at(shown, number)) {
+            Referral::Ends(flags) => {
+                *fails = true;
+                put_faulty(server, tree, owner, ns, flags, faulty)?;
+            }
+            Referral::GoesOn(flags) => {
+                queue.put(asked.hosts, asked.name, ns, owner.len())?;
+                put_faulty(server, tree, owner, ns, flags, faulty)?;
+            }
             Referral::Unclear => return Ok(false),
         }
     }
     Ok(true)
 }
 
-/// The referral of a zone cut to one of its name servers, which is lent.
-fn referral_to(
-    alloc: Global,
-    asked: Asked<'_, '_, '_>,
-    tree: &Tree<'_>,
-    cut: NodeId,
-    to: LentCut<'_>,
-) -> Result<Referral, NoMemory>
-    requires node { IsNode tree.now cut }
-    requires inside { is_prefix tree.now.zone.origin (name_of tree.now cut) ≡ true }
-    requires held { held_zone asked.hosts.now to.server.now tree.now.zone.origin ≡ Some tree.now.zone }
-    requires lent { cut_of to ≡ cut_to to.server.now tree.now.zone (name_of tree.now cut) to.ns.now }
-    ensures { IfOk result (IsReferral asked.entry.hosts.now asked.entry.sets.now asked.entry.name.now (cut_of to.entry)) }
+/// What is told of the referral to the name server of this number, by what is told of its zone cut; where nothing is told
+/// of it, there is nothing to tell.
+fn flags_at(told: Option<&[CutFlags]>, number: usize) -> CutFlags
+    ensures { result ≡ flags_at (option_map (λ told. told.now) told.entry) number }
 {
-    match Walker::following_least(asked.hosts, 0, asked.sets).leads(to, asked.name) {
-        Lead::Goes(_) => referral_on(alloc, asked.hosts, asked.sets, to),
-        Lead::Unhosted => Ok(referral_to_unhosted(tree, cut, to.ns)),
-        Lead::NoAddress | Lead::Lame => Ok(Referral::Unclear),
+    if let Some(told) = told {
+        if let Some(flags) = told.get(number) {
+            return *flags;
+        }
     }
+    CutFlags {
+        differs: false,
+        no_glue: false,
+        glue_differs: false,
+        cyclic: false,
+        no_address: false,
+        unhosted: false,
+    }
+}
+
+/// Puts the referral to a name server behind the others that show faults, if it shows some.
+fn put_faulty<'a>(
+    server: &'a Name,
+    tree: &Tree<'a>,
+    cut: &Name,
+    ns: &'a Name,
+    flags: ReferralFlags,
+    faulty: &mut Vec<Faulty<'a>>,
+) -> Result<(), NoMemory>
+    ensures { OnOk result (IsFaultyPut server.now tree.now.zone cut.now ns.now flags faulty.old.items faulty.new.items) }
+{
+    if flags.shows_some() {
+        faulty.push(Faulty {
+            server,
+            zone: &tree.zone().origin,
+            cut: cut.len(),
+            ns,
+            flags,
+        })?;
+    }
+    Ok(())
 }

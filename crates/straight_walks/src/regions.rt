@@ -6,6 +6,7 @@ ghost use Rattle.std.specs.List.Sorted.{IsStrictlySortedBy};
 ghost use Rattle.dns_data.specs.Name.{name_cmp};
 ghost use Rattle.net_model.specs.declared.config.Config.{Config};
 ghost use Rattle.net_model.specs.declared.deps.Deps.{Deps};
+ghost use Rattle.zone_lookup.specs.CutTable.{IsTableOf};
 ghost use Rattle.straight_walks.specs.Regions.{AreRegionsFor, IsPastName, IsRegion, IsSearchBelow, region_origins};
 ghost use Rattle.straight_walks.specs.Straight.{NoOriginBelow};
 
@@ -15,7 +16,7 @@ use crate::searching::Search;
 use dns_data::{Name, NoMemory};
 use std::alloc::Global;
 use std::cmp::Ordering;
-use zone_lookup::{Hosts, LearntSets, TopServers, nearest_item};
+use zone_lookup::{CutTable, Hosts, LearntSets, TopServers, nearest_item};
 
 /// The origins of a configuration's zones, each with the states to which walks for the names below it come, as far as
 /// these are the same for all names that have no other origin between.
@@ -26,17 +27,20 @@ pub struct Regions<'a> {
 }
 
 impl<'a> Regions<'a> {
-    /// The regions of the servers' zones. The sets are the least and the greatest set of learnt addresses.
+    /// The regions of the servers' zones. The sets are the least and the greatest set of learnt addresses, and the table
+    /// tells what the referrals of the zones' cuts show.
     pub fn build(
         alloc: Global,
         hosts: &Hosts<'a>,
         sets: &LearntSets,
+        table: &CutTable<'a>,
     ) -> Result<Regions<'a>, NoMemory>
+        requires { IsTableOf hosts.now sets.now table.now }
         ensures { IfOk result (AreRegionsFor hosts.now sets.now) }
     {
         let origins = origins_of(alloc, hosts.config())?;
         let tops = TopServers::of(alloc, hosts)?;
-        let regions = regions_of(alloc, hosts, sets, &tops, origins.as_slice())?;
+        let regions = regions_of(alloc, hosts, sets, table, &tops, origins.as_slice())?;
         Ok(Regions { tops, regions })
     }
 
@@ -93,16 +97,18 @@ fn regions_of<'a>(
     alloc: Global,
     hosts: &Hosts<'a>,
     sets: &LearntSets,
+    table: &CutTable<'a>,
     tops: &TopServers<'a>,
     origins: &[&'a Name],
 ) -> Result<Vec<Region<'a>>, NoMemory>
-    requires { tops.now ≡ hosts.now }
+    requires table { IsTableOf hosts.now sets.now table.now }
+    requires tops { tops.now ≡ hosts.now }
     ensures origins { IfOk result (λ regions. region_origins regions.items ≡ map (λ origin. origin.now) origins.now) }
     ensures each { IfOk result (λ regions. AllByRecursion (IsRegion hosts.now sets.now) regions.items) }
 {
     let mut regions = Vec::new(alloc);
     for origin in origins {
-        let searched = search_below(alloc, hosts, sets, tops, origin)?;
+        let searched = search_below(alloc, hosts, sets, table, tops, origin)?;
         regions.push(Region { origin, searched })?;
     }
     Ok(regions)

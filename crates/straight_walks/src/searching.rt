@@ -4,19 +4,21 @@ ghost use Rattle.std.specs.Prelude.{◌≡◌, IfOk};
 ghost use Rattle.net_model.specs.declared.deps.Deps.{Deps};
 ghost use Rattle.straight_walks.specs.Regions.{IsSearchBelow};
 
+use crate::faulty::Faulty;
 use crate::queue::{Queued, start_states};
 use dns_data::{Name, NoMemory};
 use std::alloc::Global;
 use zone_lookup::{Hosts, TopServers};
 
 /// A search over the states to which walks for a name come: the queue of them, how many of the first ones it has
-/// passed, and whether some walk ends there where no zone answers. No server answers there: walks end so, or go on to
-/// others.
+/// passed, whether some walk ends there where no zone answers, and the referrals of those passed that show faults. No
+/// server answers there: walks end so, or go on to others.
 #[derive(Drop)]
 pub(crate) struct Search<'a> {
     pub queue: Vec<Queued<'a>>,
     pub passed: usize,
     pub fails: bool,
+    pub faulty: Vec<Faulty<'a>>,
 }
 
 impl<'a> Search<'a> {
@@ -37,6 +39,7 @@ impl<'a> Search<'a> {
             queue,
             passed: 0,
             fails,
+            faulty: Vec::new(alloc),
         })
     }
 }

@@ -4,31 +4,32 @@ ghost use Rattle.std.specs.Prelude.{◌≡◌, ◌<◌, ◌≤◌, ◌+◌, ◌*
 ghost use Rattle.std.specs.List.{slice_get};
 ghost use Rattle.dns_data.specs.Name.{Labels};
 ghost use Rattle.dns_data.specs.declared.rr_type.RrType.{RrType as RrTypeValue};
-ghost use Rattle.net_model.specs.declared.fault.Fault.{Fault as FaultValue};
 ghost use Rattle.net_model.specs.declared.walk.Leaf.{Leaf as LeafValue};
-ghost use Rattle.net_model.specs.Shown.{Shows, with_lists};
+ghost use Rattle.net_model.specs.Shown.{with_lists};
 ghost use Rattle.net_model.specs.Step.{following};
 ghost use Rattle.net_model.specs.Tails.{IsUnnamedTail};
 ghost use Rattle.net_model.specs.Tree.{HasMoreThan, IsReached};
 ghost use Rattle.net_model.specs.Walk.{IsBoundedWith};
 ghost use Rattle.straight_walks.specs.Ends.{IsOutcomeOf};
+ghost use Rattle.straight_walks.specs.Faulty.{ShowsThese};
+ghost use Rattle.zone_lookup.specs.CutTable.{IsTableOf};
 ghost use Rattle.zone_lookup.specs.Reply.{IsReply};
 ghost use Rattle.straight_walks.specs.Searching.{HavePassed, GoesStraightIn, HoldsOfEachTold};
 ghost use Rattle.zone_lookup.specs.declared.reply.Reply.TheVariants as reply_as;
 ghost use Rattle.straight_walks.specs.Regions.{AreRegionsFor, IsSearchBelow};
-ghost use Rattle.straight_walks.specs.Straight.{NoOriginBetween};
+ghost use Rattle.straight_walks.specs.Straight.{NoOriginBetween, told_of};
 ghost use Rattle.walk_laws.specs.Outcome.{HasOutcome};
 
 use crate::asked::Asked;
 use crate::ends::StraightEnds;
 use crate::queue::Queue;
-use crate::referrals::queue_referrals;
+use crate::referrals::{Referring, queue_referrals};
 use crate::referring::{NextReferral, next_referral};
 use crate::regions::Regions;
 use crate::searching::Search;
 use dns_data::{Name, NoMemory, RrType};
 use std::alloc::Global;
-use zone_lookup::{Hosts, LearntSets};
+use zone_lookup::{CutTable, Hosts, LearntSets};
 use zone_tree::{NodeId, Tree};
 
 /// No more states than these are looked at.
@@ -46,47 +47,53 @@ struct Limits {
 /// Each walk may use so many rewrites and follows the servers of the least set; the sets are the least and the greatest set
 /// of learnt addresses.
 ///
-/// Where ends are given the query shows no fault, and has the outcomes of these ends and no others. If the ends say
-/// `below`, no name below the query shows a fault that has no origin of a zone between. If they say `unnamed_below`, the
-/// query with an unnamed tail shows none.
+/// Where ends are given the query shows the faults of their referrals and no others, with each type, and has the outcomes
+/// of these ends and no others. If the ends say `below`, each name below the query that has no origin of a zone between
+/// shows these faults and no others. If they say `unnamed_below`, the query with an unnamed tail does.
 ///
-/// The regions are those of the same servers and sets. The query's region is looked for near a place first, whatever that
-/// is, and the place is left near which that of the next query may be looked for. With no type does a walk of the query end
-/// in a name of more than 255 octets (RFC 6672 section 2.2).
+/// The table and the regions are those of the same servers and sets. The query's region is looked for near a place first,
+/// whatever that is, and the place is left near which that of the next query may be looked for. With no type does a walk
+/// of the query end in a name of more than 255 octets (RFC 6672 section 2.2).
 pub fn straight_ends<'h, 'a>(
     alloc: Global,
     hosts: &'h Hosts<'a>,
     sets: &LearntSets,
+    table: &CutTable<'a>,
     regions: &Regions<'a>,
     near: &mut usize,
     query: &Name,
     rewrites: u32,
     states: u32,
 ) -> Result<Option<StraightEnds<'h, 'a>>, NoMemory>
-    requires { AreRegionsFor hosts.now sets.now regions.now }
+    requires table { IsTableOf hosts.now sets.now table.now }
+    requires regions { AreRegionsFor hosts.now sets.now regions.now }
     ensures few { IfOk result (λ found. IfSome found (λ ends. HasMoreThan (IsReached hosts.now rewrites query.now) states → ⊥)) }
-    ensures shows_nothing { IfOk result (λ found. IfSome found (λ ends. (rtype : RrTypeValue) (fault : FaultValue)
-        → Shows (with_lists (following hosts.now rewrites sets.now.least) sets.now.least sets.now.greatest) query.now rtype fault → ⊥)) }
+    ensures shown { IfOk result (λ found. IfSome found (λ ends.
+        ShowsThese (with_lists (following hosts.now rewrites sets.now.least) sets.now.least sets.now.greatest) query.now (told_of query.now ends))) }
     ensures bounded { IfOk result (λ found. IfSome found (λ ends. (rtype : RrTypeValue)
         → IsBoundedWith (following hosts.now rewrites sets.now.least) query.now rtype)) }
     ensures outcomes { IfOk result (λ found. IfSome found (λ ends. (rtype : RrTypeValue) (outcome : Optional LeafValue)
         → HasOutcome (following hosts.now rewrites sets.now.least) query.now rtype outcome ↔ IsOutcomeOf ends rtype outcome)) }
     ensures few_below { IfOk result (λ found. IfSome found (λ ends. ends.below ≡ true → (name : Labels) → NoOriginBetween hosts.now query.now name
         → HasMoreThan (IsReached hosts.now rewrites name) states → ⊥)) }
-    ensures nothing_below { IfOk result (λ found. IfSome found (λ ends. ends.below ≡ true → (name : Labels) → NoOriginBetween hosts.now query.now name
-        → (rtype : RrTypeValue) (fault : FaultValue)
-        → Shows (with_lists (following hosts.now rewrites sets.now.least) sets.now.least sets.now.greatest) name rtype fault → ⊥)) }
+    ensures shown_below { IfOk result (λ found. IfSome found (λ ends. ends.below ≡ true → (name : Labels) → NoOriginBetween hosts.now query.now name
+        → ShowsThese (with_lists (following hosts.now rewrites sets.now.least) sets.now.least sets.now.greatest) name (told_of query.now ends))) }
     ensures few_unnamed { IfOk result (λ found. IfSome found (λ ends. ends.unnamed_below ≡ true → (tail : Labels) → IsUnnamedTail hosts.now query.now tail
         → HasMoreThan (IsReached hosts.now rewrites (query.now ++ tail)) states → ⊥)) }
-    ensures nothing_unnamed { IfOk result (λ found. IfSome found (λ ends. ends.unnamed_below ≡ true → (tail : Labels) → IsUnnamedTail hosts.now query.now tail
-        → (rtype : RrTypeValue) (fault : FaultValue)
-        → Shows (with_lists (following hosts.now rewrites sets.now.least) sets.now.least sets.now.greatest) (query.now ++ tail) rtype fault → ⊥)) }
+    ensures shown_unnamed { IfOk result (λ found. IfSome found (λ ends. ends.unnamed_below ≡ true → (tail : Labels) → IsUnnamedTail hosts.now query.now tail
+        → ShowsThese (with_lists (following hosts.now rewrites sets.now.least) sets.now.least sets.now.greatest) (query.now ++ tail) (told_of query.now ends))) }
 {
     let Some(states) = states_left(hosts, states) else {
         return Ok(None);
     };
     let limits = Limits { rewrites, states };
-    ends_by_region(alloc, hosts, sets, regions, near, query, limits)
+    let asked = Asked {
+        hosts,
+        sets,
+        table,
+        name: query,
+    };
+    ends_by_region(alloc, asked, regions, near, limits)
 }
 
 /// How many states may be looked at where so many pairs of state and type may be reached, or `None` where the states at
@@ -107,25 +114,20 @@ fn states_left(hosts: &Hosts<'_>, pairs: u32) -> Option<usize>
 /// those at the top servers where it is in none.
 fn ends_by_region<'h, 'a>(
     alloc: Global,
-    hosts: &'h Hosts<'a>,
-    sets: &LearntSets,
+    asked: Asked<'h, '_, 'a>,
     regions: &Regions<'a>,
     near: &mut usize,
-    query: &Name,
     limits: Limits,
 ) -> Result<Option<StraightEnds<'h, 'a>>, NoMemory>
-    requires { AreRegionsFor hosts.now sets.now regions.now }
-    ensures { IfOk result (λ found. IfSome found (HoldsOfEachTold hosts.now query.now (GoesStraightIn hosts.now sets.now limits.rewrites (limits.states + length hosts.now.tops)))) }
+    requires table { IsTableOf asked.hosts.now asked.sets.now asked.table.now }
+    requires regions { AreRegionsFor asked.hosts.now asked.sets.now regions.now }
+    ensures { IfOk result (λ found. IfSome found (HoldsOfEachTold asked.entry.hosts.now asked.entry.name.now
+        (GoesStraightIn asked.entry.hosts.now asked.entry.sets.now limits.rewrites (limits.states + length asked.entry.hosts.now.tops)))) }
 {
-    let asked = Asked {
-        hosts,
-        sets,
-        name: query,
-    };
-    match regions.search_for(near, query) {
+    match regions.search_for(near, asked.name) {
         Some(searched) => ends_from(alloc, asked, searched, limits),
         None => {
-            let searched = Search::at_top(alloc, hosts, regions.tops(), query)?;
+            let searched = Search::at_top(alloc, asked.hosts, regions.tops(), asked.name)?;
             ends_from(alloc, asked, &searched, limits)
         }
     }
@@ -139,7 +141,8 @@ fn ends_from<'h, 'a>(
     searched: &Search<'a>,
     limits: Limits,
 ) -> Result<Option<StraightEnds<'h, 'a>>, NoMemory>
-    requires { IsSearchBelow asked.hosts.now asked.sets.now asked.name.now searched.now }
+    requires table { IsTableOf asked.hosts.now asked.sets.now asked.table.now }
+    requires searched { IsSearchBelow asked.hosts.now asked.sets.now asked.name.now searched.now }
     ensures { IfOk result (λ found. IfSome found (HoldsOfEachTold asked.entry.hosts.now asked.entry.name.now
         (GoesStraightIn asked.entry.hosts.now asked.entry.sets.now limits.rewrites (limits.states + length asked.entry.hosts.now.tops)))) }
 {
@@ -150,6 +153,7 @@ fn ends_from<'h, 'a>(
     let mut ends = StraightEnds {
         answer: None,
         fails: searched.fails,
+        faulty: Vec::from_slice(alloc, searched.faulty.as_slice())?,
         rewrites: 0,
         below: true,
         unnamed_below: true,
@@ -167,7 +171,7 @@ fn ends_from<'h, 'a>(
         NextReferral::Unclear => Ok(None),
         NextReferral::Refers { passed, tree, cut } => {
             let mut queue = Queue::of(alloc, Vec::from_slice(alloc, queue)?);
-            if !passes_referral(alloc, asked, tree, cut, passed, &mut queue, &mut ends)? {
+            if !passes_referral(asked, tree, cut, passed, &mut queue, &mut ends)? {
                 return Ok(None);
             }
             all_ends(alloc, asked, queue, passed + 1, ends, limits)
@@ -185,7 +189,8 @@ fn all_ends<'h, 'a>(
     ends: StraightEnds<'h, 'a>,
     limits: Limits,
 ) -> Result<Option<StraightEnds<'h, 'a>>, NoMemory>
-    requires { HavePassed asked.hosts.now asked.sets.now asked.name.now queue passed ends }
+    requires table { IsTableOf asked.hosts.now asked.sets.now asked.table.now }
+    requires passed { HavePassed asked.hosts.now asked.sets.now asked.name.now queue passed ends }
     ensures { IfOk result (λ found. IfSome found (HoldsOfEachTold asked.entry.hosts.now asked.entry.name.now
         (GoesStraightIn asked.entry.hosts.now asked.entry.sets.now limits.rewrites (limits.states + length asked.entry.hosts.now.tops)))) }
 {
@@ -209,7 +214,7 @@ fn all_ends<'h, 'a>(
                 tree,
                 cut,
             } => {
-                if !passes_referral(alloc, asked, tree, cut, place, &mut queue, &mut ends)? {
+                if !passes_referral(asked, tree, cut, place, &mut queue, &mut ends)? {
                     return Ok(None);
                 }
                 passed = place + 1;
@@ -220,10 +225,9 @@ fn all_ends<'h, 'a>(
 }
 
 /// Whether a search passes the next state too, that at this place, whose server refers the query by this zone cut: it
-/// does where the referrals are seen to show no fault. The states to which they lead are queued then, and it is told
-/// whether walks fail.
+/// does where walks are seen to go straight by the referrals. The states to which they lead are queued then, and it is told
+/// whether walks fail, and which of the referrals show faults.
 fn passes_referral<'h, 'a>(
-    alloc: Global,
     asked: Asked<'h, '_, 'a>,
     tree: &'h Tree<'a>,
     cut: NodeId,
@@ -231,14 +235,21 @@ fn passes_referral<'h, 'a>(
     queue: &mut Queue<'a>,
     ends: &mut StraightEnds<'h, 'a>,
 ) -> Result<bool, NoMemory>
+    requires table { IsTableOf asked.hosts.now asked.sets.now asked.table.now }
     requires within { place < length queue.old }
     requires refers { IfSome (slice_get queue.old place) (λ one. IsReply asked.hosts.now one.server.now asked.name.now (reply_as.Refers tree cut)) }
     requires passed { HavePassed asked.hosts.now asked.sets.now asked.name.now queue.old place ends.old }
     ensures { IfOk result (λ straight. straight ≡ true
         → HavePassed asked.entry.hosts.now asked.entry.sets.now asked.entry.name.now queue.new (place + 1) ends.new) }
 {
-    let server = queue.as_slice()[place].server;
-    queue_referrals(alloc, asked, server, tree, cut, queue, &mut ends.fails)
+    let one = queue.as_slice()[place];
+    let from = Referring {
+        server: one.server,
+        near: one.near,
+        tree,
+        cut,
+    };
+    queue_referrals(asked, from, queue, &mut ends.fails, &mut ends.faulty)
 }
 
 /// The ends, where no walk is rewritten more often than it may be, and so many states are no more than may be looked

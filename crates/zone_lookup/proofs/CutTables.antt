@@ -18,7 +18,7 @@ use Rattle.net_model.specs.declared.config.Server.{Server}
 use Rattle.net_model.specs.declared.config.Zone.{Zone}
 use Rattle.net_model.specs.declared.deps.Deps.{Deps}
 use Rattle.net_model.specs.declared.place.Cut.{Cut}
-use Rattle.net_model.specs.Nearest.{server_named, zone_with_origin}
+use Rattle.net_model.specs.Nearest.{held_zone, server_named, zone_with_origin}
 use Rattle.net_model.specs.Zone.{exists_in}
 use Rattle.zone_tree.specs.Tree.{ZoneTree, IsNode, name_of}
 use Rattle.zone_lookup.specs.CutFlags.{flags_of, is_quiet}
@@ -26,10 +26,6 @@ use Rattle.zone_lookup.specs.CutTable.{AreRowsOf, HostRow, IsHostRow, IsPut, IsT
 use Rattle.zone_lookup.specs.Hosts.{AreTreesOf}
 use Rattle.zone_lookup.specs.Named.{item_named}
 use Rattle.zone_lookup.specs.declared.cut_flags.CutFlags.{CutFlags}
-
--- the referral of a zone cut to a name server
-abbrev pub cut_to : Labels → Zone → Labels → Labels → Cut
-cut_to server zone cut ns = record { server = server; zone = zone.origin; cut = cut; ns = ns }
 
 module _ {X Y : Type 0} (R : X → Y → Type 0) (name_of_x : X → Labels) (name_of_y : Y → Labels) (same : (x : X) (y : Y) → R x y → name_of_y y ≡ name_of_x x) (name : Labels) where
   -- beside the item of a name stands the one of that name in the other list
@@ -85,13 +81,15 @@ module _ (config : Config) (deps : Deps) where
   host_told host trees row named are beside =
       record {
         name = named;
-        told = λ tree node held whole within.
+        told = λ is_host tree node held whole within.
             let found = mapped_some (λ (t : ZoneTree). t.zone) (item_named (λ (t : ZoneTree). t.zone.origin) trees tree.zone.origin) tree.zone (are.firsts tree.zone.origin ∙ held) in
             let there = beside_named (IsZoneRow config deps host.name) (λ (t : ZoneTree). t.zone.origin) (λ (z : ZoneRow). z.origin) (λ t z is. is.origin)
             tree.zone.origin trees row.zones found.0 beside found.1 in
             let one : found.0 ≡ tree = one_tree found.0 tree there.2.whole whole found.2 in
+            let its : held_zone config host.name tree.zone.origin ≡ Some tree.zone =
+            ap (option_and_then (λ (h : Server). zone_with_origin h tree.zone.origin)) is_host ∙ held in
             let tells : TellsPlaces config deps host.name tree (IsNode tree) there.0.cuts =
-            subst (λ (t : ZoneTree). TellsPlaces config deps host.name t (IsNode t) there.0.cuts) one there.2.told in
+            subst (λ (t : ZoneTree). held_zone config host.name t.zone.origin ≡ Some t.zone → TellsPlaces config deps host.name t (IsNode t) there.0.cuts) one there.2.told its in
             subst (IsToldOf config deps (referrals_at host.name tree.zone (name_of tree node)))
             (sym (ap (option_and_then (λ (z : ZoneRow). told_at z.cuts node)) there.1)) (tells node within);
       }
@@ -110,7 +108,7 @@ module _ (config : Config) (deps : Deps) where
             let its : host.name ≡ server = (name_eq_decides host.name server).0 (found_there (λ (h : Server). name_eq h.name server) config.servers host named).1 in
             let says : IsToldOf config deps (referrals_at server tree.zone (name_of tree node)) (told_of there.0 tree.zone.origin node) =
             subst (λ (n : Labels). IsToldOf config deps (referrals_at n tree.zone (name_of tree node)) (told_of there.0 tree.zone.origin node)) its
-            (told.told tree node in_host whole within) in
+            (told.told (ap (server_named config) its ∙ named) tree node in_host whole within) in
             subst (IsToldOf config deps (referrals_at server tree.zone (name_of tree node)))
             (sym (ap (option_and_then (λ (r : HostRow). told_of r tree.zone.origin node)) there.1)) says);
       }

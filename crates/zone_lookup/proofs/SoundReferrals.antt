@@ -1,16 +1,22 @@
 -- Sound referrals.
-use Rattle.std.proofs.Common.{◌≡◌, Bool, true, false, not, Option, Some, None, refl, ap, ◌∙◌}
+use Rattle.std.proofs.Common.{◌≡◌, Bool, true, false, not, Option, Some, None, ℕ, refl, sym, ap, ◌∙◌}
 use Rattle.std.specs.Prelude.{◌&&◌, is_some, option_and_then}
+use Rattle.std.specs.Option.{option_map_or}
 use Rattle.dns_data.specs.Name.{is_prefix, is_among}
-use Rattle.net_model.specs.Nearest.{held_zone, is_top, server_named, zone_with_origin}
-use Rattle.net_model.specs.Step.{has_glue}
+use Rattle.net_model.specs.Nearest.{held_zone, is_configured, is_top, server_named, zone_with_origin}
+use Rattle.net_model.specs.Step.{has_glue, may_follow}
+use Rattle.net_model.specs.Zone.{has_address}
 use Rattle.net_model.specs.declared.config.Config.{Config}
 use Rattle.net_model.specs.declared.config.Server.{Server}
 use Rattle.net_model.specs.declared.config.Zone.{Zone}
 use Rattle.net_model.specs.declared.deps.Deps.{Deps}
 use Rattle.net_model.specs.declared.place.Cut.{Cut}
-use Rattle.zone_lookup.specs.Sides.{glue_of_sides, sides_differ}
-use Rattle.zone_lookup.specs.Sound.{IsSound, wants_glue}
+use Rattle.zone_tree.specs.Tree.{ZoneTree, name_of}
+use Rattle.zone_lookup.specs.CutFlags.{flags_of, lacks_address}
+use Rattle.zone_lookup.specs.CutTable.{cut_to}
+use Rattle.zone_lookup.specs.Sides.{addresses_differ, glue_of_sides, sides_differ, zones_differ}
+use Rattle.zone_lookup.specs.Sound.{IsSound, depends_on_itself, wants_glue}
+use Rattle.zone_lookup.specs.declared.cut_flags.CutFlags.{CutFlags}
 
 -- where the name server holds no zone there is nothing that differs
 same_alone : (cut : Cut) (above : Option Zone) → sides_differ cut above None ≡ false
@@ -22,18 +28,51 @@ glue_alone false cut above = refl
 glue_alone true cut None = refl
 glue_alone true cut (Some above) = refl
 
--- a referral to a name server that isn't configured is sound unless it wants glue
-pub unhosted_sound : (config : Config) (deps : Deps) (cut : Cut) → server_named config cut.ns ≡ None → wants_glue config cut ≡ false → IsSound config deps cut
-unhosted_sound config deps cut unhosted glued =
-    record {
-      same_servers = ap (sides_differ cut above) none_held ∙ same_alone cut above;
-      glued = glued;
-      same_addresses = ap (λ (held : Option Zone). is_prefix cut.cut cut.ns && glue_of_sides cut above held) none_held ∙ glue_alone (is_prefix cut.cut cut.ns) cut above;
-      independent = ap (λ (named : Option Server). is_some named && not (is_top config cut.ns) && not (has_glue config cut) && is_among deps.greatest cut.ns && not (is_among deps.least cut.ns)) unhosted;
-    }
-  where
-    above : Option Zone
-    above = held_zone config cut.server cut.zone
+none_below : (below address : Bool) → (below && not address) ≡ (below && not (below && address))
+none_below false address = refl
+none_below true address = refl
 
-    none_held : held_zone config cut.ns cut.cut ≡ None
-    none_held = ap (option_and_then (λ (holder : Server). zone_with_origin holder cut.cut)) unhosted
+-- whether the name server of a zone cut is below it and has no address in the tree's zone is whether it wants glue
+pub glue_told : (config : Config) (tree : ZoneTree) (node : ℕ) (cut : Cut) → cut ≡ cut_to cut.server tree.zone (name_of tree node) cut.ns
+    → held_zone config cut.server tree.zone.origin ≡ Some tree.zone → (is_prefix (name_of tree node) cut.ns && not (has_address tree.zone cut.ns)) ≡ wants_glue config cut
+glue_told config tree node cut is held =
+    let below = is_prefix (name_of tree node) cut.ns in
+    let glue : has_glue config (cut_to cut.server tree.zone (name_of tree node) cut.ns) ≡ (below && has_address tree.zone cut.ns) =
+    ap (λ (zone : Option Zone). below && option_map_or (λ z. has_address z cut.ns) zone false) held in
+    none_below below (has_address tree.zone cut.ns) ∙ sym (ap (λ (b : Bool). below && not b) glue) ∙ sym (ap (wants_glue config) is)
+
+-- what shows no more than whether glue is missing
+abbrev pub unhosted_with : Bool → CutFlags
+unhosted_with no_glue = record { differs = false; no_glue = no_glue; glue_differs = false; cyclic = false; no_address = false; unhosted = true }
+
+module _ (config : Config) (deps : Deps) (cut : Cut) (unhosted : server_named config cut.ns ≡ None) where
+  abbrev above : Option Zone
+  above = held_zone config cut.server cut.zone
+
+  none_held : held_zone config cut.ns cut.cut ≡ None
+  none_held = ap (option_and_then (λ (holder : Server). zone_with_origin holder cut.cut)) unhosted
+
+  same_servers : zones_differ config cut ≡ false
+  same_servers = ap (sides_differ cut above) none_held ∙ same_alone cut above
+
+  same_addresses : addresses_differ config cut ≡ false
+  same_addresses =
+      ap (λ (held : Option Zone). is_prefix cut.cut cut.ns && glue_of_sides cut above held) none_held ∙ glue_alone (is_prefix cut.cut cut.ns) cut above
+
+  independent : depends_on_itself config deps cut ≡ false
+  independent =
+      ap (λ (named : Option Server). is_some named && not (is_top config cut.ns) && not (has_glue config cut) && is_among deps.greatest cut.ns && not (is_among deps.least cut.ns)) unhosted
+
+  -- a referral to a name server that isn't configured is sound unless it wants glue
+  pub unhosted_sound : wants_glue config cut ≡ false → IsSound config deps cut
+  unhosted_sound glued = record { same_servers = same_servers; glued = glued; same_addresses = same_addresses; independent = independent }
+
+  -- it shows no more than that
+  pub unhosted_flags : (no_glue : Bool) → no_glue ≡ wants_glue config cut → unhosted_with no_glue ≡ flags_of config deps cut
+  unhosted_flags no_glue glued =
+      let known : lacks_address config deps cut ≡ false = ap (λ (named : Option Server). is_some named && not (may_follow config cut deps.least)) unhosted in
+      let none : not (is_configured config cut.ns) ≡ true = ap (λ (named : Option Server). not (is_some named)) unhosted in
+      let differ : zones_differ config cut ≡ false = same_servers in
+      let glue : addresses_differ config cut ≡ false = same_addresses in
+      let cyclic : depends_on_itself config deps cut ≡ false = independent in
+      cc

@@ -12,7 +12,7 @@ use Rattle.net_model.specs.declared.config.Server.{Server}
 use Rattle.net_model.specs.declared.config.Zone.{Zone}
 use Rattle.net_model.specs.declared.deps.Deps.{Deps}
 use Rattle.net_model.specs.declared.place.Cut.{Cut}
-use Rattle.net_model.specs.Nearest.{held_zone, zone_with_origin}
+use Rattle.net_model.specs.Nearest.{held_zone, server_named, zone_with_origin}
 use Rattle.net_model.specs.Zone.{exists_in, ns_names}
 use Rattle.zone_tree.specs.Tree.{ZoneTree, IsNode, name_of}
 use Rattle.zone_lookup.specs.CutFlags.{flags_of, is_quiet}
@@ -31,9 +31,13 @@ pub record HostRow : Type 0 where
   pub server : Labels
   pub zones : List ZoneRow
 
+-- the referral of a zone cut of the server's zone to a name server
+abbrev pub cut_to : Labels → Zone → Labels → Labels → Cut
+cut_to server zone cut ns = record { server = server; zone = zone.origin; cut = cut; ns = ns }
+
 -- the referrals of a zone cut of the server's zone, one to each of its name servers, in their order
 abbrev pub referrals_at : Labels → Zone → Labels → List Cut
-referrals_at server zone cut = map (λ ns. record { server = server; zone = zone.origin; cut = cut; ns = ns }) (ns_names zone cut)
+referrals_at server zone cut = map (cut_to server zone cut) (ns_names zone cut)
 
 -- what is told of a zone cut is what each of its referrals shows; where nothing is told, they show no fault, and each name
 -- server's address is known that is configured
@@ -71,16 +75,16 @@ abbrev pub TellsPlaces : Config → Deps → Labels → ZoneTree → (ℕ → Ty
 TellsPlaces config deps server tree among cuts =
     (node : ℕ) → among node → IsToldOf config deps (referrals_at server tree.zone (name_of tree node)) (told_at cuts node)
 
--- the row tells of the tree's zone, which the server holds
+-- the row tells of the tree's zone, if the server holds it
 pub record IsZoneRow (config : Config) (deps : Deps) (server : Labels) (tree : ZoneTree) (row : ZoneRow) : Type 0 where
   pub origin : row.origin ≡ tree.zone.origin
   pub whole : IsWholeTree tree
-  pub told : TellsPlaces config deps server tree (IsNode tree) row.cuts
+  pub told : held_zone config server tree.zone.origin ≡ Some tree.zone → TellsPlaces config deps server tree (IsNode tree) row.cuts
 
--- the row tells of the server's zones
+-- the row tells of the server's zones, if it is the one of its name
 pub record IsHostRow (config : Config) (deps : Deps) (host : Server) (row : HostRow) : Type 0 where
   pub name : row.server ≡ host.name
-  pub told : (tree : ZoneTree) (node : ℕ) → zone_with_origin host tree.zone.origin ≡ Some tree.zone → IsWholeTree tree → IsNode tree node
+  pub told : server_named config host.name ≡ Some host → (tree : ZoneTree) (node : ℕ) → zone_with_origin host tree.zone.origin ≡ Some tree.zone → IsWholeTree tree → IsNode tree node
       → IsToldOf config deps (referrals_at host.name tree.zone (name_of tree node)) (told_of row tree.zone.origin node)
 
 -- the rows tell of the zones of each server of the configuration, beside the servers in the order of their names

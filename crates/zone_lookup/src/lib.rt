@@ -11,7 +11,7 @@
 //! zone for a name; of a name whose walks end there `learnt_at_tops` tells whether its address is learnt.
 //! `put_cut_faults` puts what a referral shows, whatever comes behind it, as the definitions say: whether the two zones
 //! list other name servers or hold other addresses, whether glue is missing, and whether the name server's address
-//! depends on itself (`LearntSets` has the learnt addresses); one that `is_sound` lets pass shows none of these.
+//! depends on itself (`LearntSets` has the learnt addresses). `CutTable` tells it of all zone cuts, made once.
 //!
 //! Costs: what decides at a name is found in one search among the zone's names, or in two where a wildcard may answer. No
 //! data are looked at but those that are answered. A server and a zone are found in as many comparisons of names as the
@@ -21,9 +21,10 @@
 //! looked for is the place of the last origin that isn't behind it; a server takes one where it stands at its place near,
 //! as `nearest_near` looks for both. Glue that stands right behind its zone cut in the order of names is found in a few
 //! comparisons. Of a referral both zones are found by their origins, and their name servers and the addresses of glue are
-//! compared; whether a name is among the learnt ones is found in sets that are made once. `is_sound` looks into one name
-//! server, and for one that isn't configured only for its glue; `may_follow` passes over the top servers. Those that hold
-//! a zone for a name are found by its prefixes, and `learnt_at_tops` asks each of them once. Where thousands hold the same
+//! compared; whether a name is among the learnt ones is found in sets that are made once. Of a name server that isn't
+//! configured only its glue is looked for. `CutTable` keeps nothing of a zone cut where there is nothing to tell; else six
+//! octets a name server, found by the place of the cut's name. `may_follow` passes over the top servers. Those that hold a
+//! zone for a name are found by its prefixes, and `learnt_at_tops` asks each of them once. Where thousands hold the same
 //! zones they are asked as one: `TopServers::unlike` compares each top server's zones, record by record, with those of a
 //! few others, and leaves the server out where they are the same. That no zone refers or rewrites a name would be told
 //! sooner, but most zones do, and where none gives an address each would still be asked.

@@ -1,16 +1,13 @@
-//! Whether a referral is sound, whatever comes behind it.
+//! What makes a referral unsound by its name server alone: missing glue, and an address that depends on itself.
 
-ghost use Rattle.std.specs.Prelude.{◌≡◌, true, IfOk};
+ghost use Rattle.std.specs.Prelude.{◌≡◌, true};
 ghost use Rattle.dns_data.specs.Name.{is_prefix};
 ghost use Rattle.zone_lookup.specs.LentCut.{cut_of};
-ghost use Rattle.zone_lookup.specs.Sound.{IsSound, depends_on_itself, wants_glue};
+ghost use Rattle.zone_lookup.specs.Sound.{depends_on_itself, wants_glue};
 
 use crate::hosts::Hosts;
 use crate::learnt_sets::LearntSets;
 use crate::lent_cut::LentCut;
-use crate::sides::{addresses_differ, zones_differ};
-use dns_data::NoMemory;
-use std::alloc::Global;
 
 /// Whether the name server is at or below the cut and has no glue.
 pub(crate) fn wants_glue(hosts: &Hosts<'_>, cut: LentCut<'_>) -> bool
@@ -30,30 +27,4 @@ pub(crate) fn depends_on_itself(hosts: &Hosts<'_>, sets: &LearntSets, cut: LentC
         && !hosts.is_known(cut)
         && sets.has_greatest(cut.ns)
         && !sets.has_least(cut.ns)
-}
-
-impl LearntSets {
-    /// Whether a referral to a name server is sound: its zones list the same name servers and hold the same addresses
-    /// of it, it has glue where it needs some, and its address doesn't depend on itself. One that isn't configured is
-    /// asked for its glue alone.
-    pub fn is_sound(
-        &self,
-        alloc: Global,
-        hosts: &Hosts<'_>,
-        cut: LentCut<'_>,
-    ) -> Result<bool, NoMemory>
-        requires { is_prefix cut.zone.now cut.cut.now ≡ true }
-        ensures { IfOk result (λ sound. sound ≡ true → IsSound hosts.now self.now (cut_of cut.entry)) }
-    {
-        if wants_glue(hosts, cut) {
-            return Ok(false);
-        }
-        if hosts.host(cut.ns).is_none() {
-            return Ok(true);
-        }
-        if depends_on_itself(hosts, self, cut) || zones_differ(hosts, cut) {
-            return Ok(false);
-        }
-        Ok(!addresses_differ(alloc, hosts, cut)?)
-    }
 }

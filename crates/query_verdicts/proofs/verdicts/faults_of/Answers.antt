@@ -10,6 +10,9 @@ use Rattle.query_verdicts.proofs.verdicts.faults_of.Goals as goal
 pub graph_in_least-requires-clause-built : goal.graph_in_least-requires-clause-built
 graph_in_least-requires-clause-built c = (c.args.query.now, c.requires.built)
 
+pub shown_in-requires : goal.shown_in-requires
+shown_in-requires c = c.requires.learnt.table
+
 pub returns-in-Represents : goal.returns-in-Represents
 returns-in-Represents c =
     let queries = c.args.queries.now in

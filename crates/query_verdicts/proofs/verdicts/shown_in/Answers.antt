@@ -7,7 +7,7 @@ pub returns : goal.returns
 returns c = λ rewrites query is_least is_greatest is.
     let config = c.args.queries.now.trees in
     let states = c.args.queries.now.states in
-    let deps = c.args.sets.now in
+    let deps = c.args.learnt.now.sets in
     let setting = following config rewrites deps.least in
     let of_rewrites = c.in_ok-of_rewrites.ensures.shown setting query is in
     let of_delegations = c.in_ok-of_delegations.ensures setting query (record { config_is = refl; is_graph = is.is_graph; exact = is.exact }) in

@@ -7,31 +7,31 @@ use Rattle.straight_walks.proofs.straight.all_ends.Goals as goal
 
 pub passes_referral-requires-clause-within : goal.passes_referral-requires-clause-within
 passes_referral-requires-clause-within c =
-    (subst (λ (all : List Queued). IsNextReferral c.args.asked.hosts.now c.args.asked.name.now all c.loop-ends.passed c.loop-ends.ends c.next_referral.new.ends
+    (subst (λ (all : List Queued). IsNextReferral c.args.asked.hosts.now c.args.asked.name.now all c.loop-alloc.passed c.loop-alloc.ends c.next_referral.new.ends
     (referring.Refers c.in-Refers.place c.in-Refers.tree c.in-Refers.cut)) c.as_slice.ensures c.in-Refers.ensures).1
 
 pub passes_referral-requires-clause-refers : goal.passes_referral-requires-clause-refers
 passes_referral-requires-clause-refers c =
-    (subst (λ (all : List Queued). IsNextReferral c.args.asked.hosts.now c.args.asked.name.now all c.loop-ends.passed c.loop-ends.ends c.next_referral.new.ends
+    (subst (λ (all : List Queued). IsNextReferral c.args.asked.hosts.now c.args.asked.name.now all c.loop-alloc.passed c.loop-alloc.ends c.next_referral.new.ends
     (referring.Refers c.in-Refers.place c.in-Refers.tree c.in-Refers.cut)) c.as_slice.ensures c.in-Refers.ensures).2
 
 pub passes_referral-requires-clause-passed : goal.passes_referral-requires-clause-passed
 passes_referral-requires-clause-passed c =
-    (subst (λ (all : List Queued). IsNextReferral c.args.asked.hosts.now c.args.asked.name.now all c.loop-ends.passed c.loop-ends.ends c.next_referral.new.ends
-    (referring.Refers c.in-Refers.place c.in-Refers.tree c.in-Refers.cut)) c.as_slice.ensures c.in-Refers.ensures).3 c.args.asked.sets.now c.loop-ends.invariant
+    (subst (λ (all : List Queued). IsNextReferral c.args.asked.hosts.now c.args.asked.name.now all c.loop-alloc.passed c.loop-alloc.ends c.next_referral.new.ends
+    (referring.Refers c.in-Refers.place c.in-Refers.tree c.in-Refers.cut)) c.as_slice.ensures c.in-Refers.ensures).3 c.args.asked.sets.now c.loop-alloc.invariant
 
-pub loop-ends-preserved : goal.loop-ends-preserved
-loop-ends-preserved c = c.in_ok-passes_referral-in-Refers.ensures c.if-not-branch.false
+pub loop-alloc-preserved : goal.loop-alloc-preserved
+loop-alloc-preserved c = c.in_ok-passes_referral-in-Refers.ensures c.if-not-branch.false
 
 pub returns-in-Ends : goal.returns-in-Ends
 returns-in-Ends c =
     let config = c.args.asked.hosts.now in
     let deps = c.args.asked.sets.now in
     let query = c.args.asked.name.now in
-    let queue = c.loop-ends.queue in
-    let ends_before = c.loop-ends.ends in
+    let queue = c.loop-alloc.queue in
+    let ends_before = c.loop-alloc.ends in
     let ends = c.next_referral.new.ends in
-    let all_end = subst (λ (all : List Queued). IsNextReferral config query all c.loop-ends.passed ends_before ends referring.Ends) c.as_slice.ensures c.in-Ends.ensures in
+    let all_end = subst (λ (all : List Queued). IsNextReferral config query all c.loop-alloc.passed ends_before ends referring.Ends) c.as_slice.ensures c.in-Ends.ensures in
     let len_is : c.len-in-Ends.result ≡ length queue = omega (arith, c.len-in-Ends.ensures) in
     given_within config deps query c.args.limits.rewrites c.args.limits.states (c.args.limits.states + length config.tops) c.len-in-Ends.result ends c.ends_within.result c.ends_within.ensures.same c.ends_within.ensures.few c.ends_within.ensures.rewrites
-    (λ few. all_end deps c.loop-ends.invariant c.args.limits.states (subst (λ (n : ℕ). n * (ends.rewrites + 1) ≤ c.args.limits.states) len_is few))
+    (λ few. all_end deps c.loop-alloc.invariant c.args.limits.states (subst (λ (n : ℕ). n * (ends.rewrites + 1) ≤ c.args.limits.states) len_is few))

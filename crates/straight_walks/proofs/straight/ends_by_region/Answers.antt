@@ -1,7 +1,7 @@
 use Rattle.straight_walks.proofs.straight.ends_by_region.Goals as goal
 
-pub ends_from-requires : goal.ends_from-requires
-ends_from-requires c = c.in-Some.ensures c.args.hosts.now c.args.sets.now c.requires
+pub ends_from-requires-clause-searched : goal.ends_from-requires-clause-searched
+ends_from-requires-clause-searched c = c.in-Some.ensures c.args.asked.hosts.now c.args.asked.sets.now c.requires.regions
 
-pub ends_from-requires-in-None : goal.ends_from-requires-in-None
-ends_from-requires-in-None c = c.in_ok-searched-in-None.ensures.is c.args.sets.now
+pub ends_from-requires-in-None-clause-searched : goal.ends_from-requires-in-None-clause-searched
+ends_from-requires-in-None-clause-searched c = c.in_ok-searched-in-None.ensures.is c.args.asked.sets.now

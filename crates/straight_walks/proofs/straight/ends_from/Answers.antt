@@ -23,11 +23,12 @@ passes_referral-requires-clause-passed c =
     subst (λ (all : List Queued). HavePassed c.args.asked.hosts.now c.args.asked.sets.now c.args.asked.name.now all c.in-Refers.passed c.next_referral.new.ends)
     (sym (c.of-queue.ensures ∙ c.in_ok-from_slice-in-Refers.ensures.items))
     (c.in-Refers.ensures.3 c.args.asked.sets.now
-    (subst (λ (all : List Queued). HavePassed c.args.asked.hosts.now c.args.asked.sets.now c.args.asked.name.now all c.args.searched.now.passed (unanswered c.args.searched.now.fails))
-    (sym c.as_slice-queue.ensures.value) (begun c.args.asked.hosts.now c.args.asked.sets.now c.args.asked.name.now c.args.searched.now c.requires)))
+    (subst (λ (all : List Queued). HavePassed c.args.asked.hosts.now c.args.asked.sets.now c.args.asked.name.now all c.args.searched.now.passed (unanswered c.args.searched.now.fails c.in_ok-from_slice.field-0))
+    (sym c.as_slice-queue.ensures.value)
+    (begun c.args.asked.hosts.now c.args.asked.sets.now c.args.asked.name.now c.args.searched.now c.in_ok-from_slice.field-0 (c.in_ok-from_slice.ensures.items ∙ c.as_slice.ensures.value) c.requires.searched)))
 
-pub all_ends-requires : goal.all_ends-requires
-all_ends-requires c = c.in_ok-passes_referral-in-Refers.ensures c.if-not-branch.false
+pub all_ends-requires-clause-passed : goal.all_ends-requires-clause-passed
+all_ends-requires-clause-passed c = c.in_ok-passes_referral-in-Refers.ensures c.if-not-branch.false
 
 pub returns-in-Ends : goal.returns-in-Ends
 returns-in-Ends c =
@@ -36,6 +37,6 @@ returns-in-Ends c =
     let query = c.args.asked.name.now in
     given_within config deps query c.args.limits.rewrites c.args.limits.states (c.args.limits.states + length config.tops) (length c.as_slice-queue.result.now) c.next_referral.new.ends c.ends_within.result c.ends_within.ensures.same c.ends_within.ensures.few c.ends_within.ensures.rewrites
     (λ few. c.in-Ends.ensures deps
-    (subst (λ (all : List Queued). HavePassed config deps query all c.args.searched.now.passed (unanswered c.args.searched.now.fails)) (sym c.as_slice-queue.ensures.value)
-    (begun config deps query c.args.searched.now c.requires))
+    (subst (λ (all : List Queued). HavePassed config deps query all c.args.searched.now.passed (unanswered c.args.searched.now.fails c.in_ok-from_slice.field-0)) (sym c.as_slice-queue.ensures.value)
+    (begun config deps query c.args.searched.now c.in_ok-from_slice.field-0 (c.in_ok-from_slice.ensures.items ∙ c.as_slice.ensures.value) c.requires.searched))
     c.args.limits.states few)

@@ -9,16 +9,16 @@ use Rattle.zone_lookup.proofs.cut_table.zone_row.Goals as goal
 
 pub loop-place-preserved : goal.loop-place-preserved
 loop-place-preserved c = elim c.match-node_in.branch [
-  | in-Some+in_ok-flags+in_ok-put_unless_quiet w ↦ (
+  | in-Some+in_ok-flags+in_ok-put_unless_quiet w ↦ λ held. (
       let tree = c.args.tree.now in
       let place = c.loop-place.place in
       let at : w.in-Some.cut ≡ place = w.in-Some.ensures.some.0 in
       let flags : w.in_ok-flags.flags ≡ map (flags_of c.args.hosts.now c.args.sets.now) (referrals_at c.args.server.now tree.zone (name_of tree place)) =
-      w.in_ok-flags.ensures ∙ ap (λ (n : ℕ). map (flags_of c.args.hosts.now c.args.sets.now) (referrals_at c.args.server.now tree.zone (name_of tree n))) at in
+      w.in_ok-flags.ensures held ∙ ap (λ (n : ℕ). map (flags_of c.args.hosts.now c.args.sets.now) (referrals_at c.args.server.now tree.zone (name_of tree n))) at in
       subst (λ m. IsRowUpTo c.args.hosts.now c.args.sets.now c.args.server.now tree (place + 1) m.entries) (sym w.cuts-is)
       (told_more c.args.hosts.now c.args.sets.now c.args.server.now tree place w.in_ok-flags.flags c.loop-place.cuts.entries w.put_unless_quiet.new.cuts.entries
-      c.loop-place.invariant w.in_ok-put_unless_quiet.ensures flags))
-  | in_default w ↦ (
+      (c.loop-place.invariant held) w.in_ok-put_unless_quiet.ensures flags))
+  | in_default w ↦ λ held. (
       let below : c.loop-place.place < length c.args.tree.now.names =
       subst (λ (names : List Labels). c.loop-place.place < length names) c.names-place-end.ensures c.loop-place-test.true in
       let past : length c.args.tree.now.names ≤ c.loop-place.place = w.in_default.ensures.none in

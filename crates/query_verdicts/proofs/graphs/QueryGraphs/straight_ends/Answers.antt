@@ -7,8 +7,13 @@ use Rattle.query_verdicts.specs.declared.learnt.Learnt.{Learnt}
 use Rattle.query_verdicts.proofs.StraightVerdicts.{straight_ends}
 use Rattle.query_verdicts.proofs.graphs.QueryGraphs.straight_ends.Goals as goal
 
-pub straight_ends-requires : goal.straight_ends-requires
-straight_ends-requires c =
+pub straight_ends-requires-clause-table : goal.straight_ends-requires-clause-table
+straight_ends-requires-clause-table c =
+    let queries = c.self.inside.queries in
+    (subst (λ (l : Result Learnt Labels). IsLearntOf queries.trees queries.rewrites queries.states l) c.in-Ok.is c.self.invariant).table
+
+pub straight_ends-requires-clause-regions : goal.straight_ends-requires-clause-regions
+straight_ends-requires-clause-regions c =
     let queries = c.self.inside.queries in
     (subst (λ (l : Result Learnt Labels). IsLearntOf queries.trees queries.rewrites queries.states l) c.in-Ok.is c.self.invariant).regions
 
@@ -19,4 +24,4 @@ returns-in-Ok c =
     let told = c.straight_ends.ensures in
     subst (λ (q : LimitedQueries). IfOk c.straight_ends.result (λ found. IfSome found (AreStraightEnds q.config q.rewrites q.states c.args.query.now))) c.self.view_is
     (straight_ends queries.trees queries.rewrites queries.states c.args.query.now c.in-Ok.learnt.sets learnt.sets c.straight_ends.result
-    told.few told.shows_nothing told.bounded told.outcomes told.few_below told.nothing_below told.few_unnamed told.nothing_unnamed)
+    told.few told.shown told.bounded told.outcomes told.few_below told.shown_below told.few_unnamed told.shown_unnamed)

@@ -1,18 +1,23 @@
-use Rattle.std.proofs.Common.{Option, subst}
+use Rattle.std.proofs.Common.{◌≡◌, ◌==◌, true, List, length, Option, sym, ap, ◌∙◌, subst}
 use Rattle.std.specs.Prelude.{IfSome}
 use Rattle.straight_walks.specs.Straight.{NoOriginBelow}
-use Rattle.query_verdicts.specs.Queries.{LimitedQueries}
-use Rattle.query_verdicts.specs.Subjects.{IsQuietAt}
+use Rattle.straight_walks.specs.declared.ends.StraightEnds.{StraightEnds}
+use Rattle.straight_walks.specs.declared.faulty.Faulty.{Faulty}
+use Rattle.query_verdicts.specs.Queries.{AreStraightEnds, LimitedQueries}
 use Rattle.query_verdicts.specs.Verdict.{IsQuiet}
-use Rattle.query_verdicts.specs.declared.quiet.Quiet.{Quiet}
 use Rattle.query_verdicts.proofs.QuietBelow.{told_of_all}
+use Rattle.query_verdicts.proofs.StraightVerdicts.{told_nothing}
 use Rattle.query_verdicts.proofs.name_judge.NameJudge.all_quiet.Goals as goal
 
-pub returns-then-quiet : goal.returns-then-quiet
-returns-then-quiet g c = λ all.
+pub returns-else-not-is_empty : goal.returns-else-not-is_empty
+returns-else-not-is_empty g c = λ all.
     let subject = g.S.OnSubject.subject in
     let states = g.S.OnSubject.states in
     let query = c.args.query.now in
-    let at = subst (λ (found : Option Quiet). IfSome found (IsQuietAt subject states query)) c.in-Some.is c.requires in
+    let ends = c.in-Some.ends in
+    let none : (length ends.faulty.items == 0) ≡ true =
+    ap (λ (all : List Faulty). length all == 0) (sym c.as_slice.ensures.value) ∙ sym c.is_empty.ensures ∙ c.if-not-is_empty.false in
+    let are = subst (λ (found : Option StraightEnds). IfSome found (AreStraightEnds subject.config subject.rewrites states query)) c.in-Some.is c.requires in
     told_of_all subject.config (IsQuiet subject states) query
-    (subst (λ (q : LimitedQueries). NoOriginBelow q.config query) c.self.invariant.queries_are (c.no_origin_below.ensures all)) (at.below c.if-quiet.true)
+    (subst (λ (q : LimitedQueries). NoOriginBelow q.config query) c.self.invariant.queries_are (c.no_origin_below.ensures all))
+    (λ name between. told_nothing subject.config subject.rewrites states query name ends none (are.told_below c.if-not-ends.false name between))

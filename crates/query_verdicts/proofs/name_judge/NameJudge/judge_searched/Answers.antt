@@ -6,7 +6,7 @@ use Rattle.query_verdicts.specs.Verdict.{IsNameVerdict, IsQuiet}
 use Rattle.query_verdicts.proofs.name_judge.NameJudge.judge_searched.Goals as goal
 
 pub all_quiet-all_quiet-requires : goal.all_quiet-all_quiet-requires
-all_quiet-all_quiet-requires g c = c.in_ok-quiet.ensures
+all_quiet-all_quiet-requires g c = c.in_ok-ends.ensures
 
 -- the name of the item with its live set is the item's
 pub judge_name-requires-clause-live : goal.judge_name-requires-clause-live
@@ -15,8 +15,8 @@ judge_name-requires-clause-live g c = c.live_name-name.ensures.live
 pub judge_name-requires-clause-in_tree : goal.judge_name-requires-clause-in_tree
 judge_name-requires-clause-in_tree g c = subst (IsInTree g.S.OnSubject.subject.ground) (sym c.live_name-name.ensures.name) c.requires
 
-pub judge_name-requires-clause-quiet : goal.judge_name-requires-clause-quiet
-judge_name-requires-clause-quiet g c = c.in_ok-quiet.ensures
+pub judge_name-requires-clause-ends : goal.judge_name-requires-clause-ends
+judge_name-requires-clause-ends g c = c.in_ok-ends.ensures
 
 pub with_children-requires-clause-verdict : goal.with_children-requires-clause-verdict
 with_children-requires-clause-verdict g c =

@@ -10,7 +10,8 @@ returns-in_ok-push-in-Outside c = λ yes.
       extends = ([], sym (append-nil before.queue));
       passed = c.in_ok-push-in-Outside.ensures.items;
       answering = refl;
-      passes = outside_past c.args.hosts.now c.args.sets.now c.args.origin.now c.args.one.server.now before.queue before.fails c.in-Outside.ensures;
+      passes = λ above.
+          outside_past c.args.asked.hosts.now c.args.asked.sets.now c.args.asked.name.now c.args.one.server.now before.queue before.fails before.faulty c.in-Outside.ensures;
     })
 
 pub returns-in_ok-push-in-Records : goal.returns-in_ok-push-in-Records
@@ -20,6 +21,7 @@ returns-in_ok-push-in-Records c = λ yes.
       passed = refl;
       answering = c.in_ok-push-in-Records.ensures.items;
       fails = refl;
+      faulty = refl;
     })
 
 pub returns-in_ok-push-in-Refers : goal.returns-in_ok-push-in-Refers
@@ -30,6 +32,6 @@ returns-in_ok-push-in-Refers c = λ yes.
       extends = on.extends;
       passed = c.in_ok-push-in-Refers.ensures.items;
       answering = refl;
-      passes = referral_past c.args.hosts.now c.args.sets.now c.args.origin.now c.args.one.server.now before.queue before.fails
-          c.queue_referrals.new.queue c.queue_referrals.new.fails c.in-Refers.tree c.in-Refers.cut c.in-Refers.ensures on;
+      passes = referral_past c.args.asked.hosts.now c.args.asked.sets.now c.args.asked.name.now c.args.one.server.now before.queue before.fails before.faulty
+          c.queue_referrals.new.queue c.queue_referrals.new.fails c.queue_referrals.new.faulty c.in-Refers.tree c.in-Refers.cut c.in-Refers.ensures on;
     })

@@ -12,7 +12,7 @@ returns-clause-is c = λ deps query between.
     let many : c.len.result ≡ length queue = omega (arith, c.len.ensures) in
     record {
       within = omega arith;
-      walked = begins_at_top config deps query queue _
+      walked = begins_at_top config deps query queue _ c.new.result c.new.ensures.items
           (subst (λ (n : ℕ). BeginsAtTops config query queue (nat_lt n c.count.result)) (sym many)
           (subst (λ (n : ℕ). BeginsAtTops config query queue (nat_lt (length queue) n)) (sym (c.count.ensures ∙ ap (λ (k : Config). length k.tops) c.requires))
           (c.in_ok-queue.ensures query between)));

@@ -1,0 +1,103 @@
+//! The faults that a query shows whose walks go straight.
+
+ghost use Rattle.std.specs.Prelude.{◌≡◌, ◌++◌, take, IfOk, OnOk};
+ghost use Rattle.dns_data.specs.declared.rr_type.RrType.TheVariants as types;
+ghost use Rattle.graph_form.specs.Branches.{with_type};
+ghost use Rattle.graph_form.specs.Verdict.{AreFirstTypes};
+ghost use Rattle.net_model.specs.declared.fault.Fault.{Fault as FaultValue};
+ghost use Rattle.zone_lookup.specs.ReferralFaults.{if_shown};
+ghost use Rattle.straight_walks.specs.Faulty.{faulty_cut, flag_faults};
+ghost use Rattle.straight_walks.specs.Straight.{told_of};
+
+use crate::ends::StraightEnds;
+use crate::faulty::Faulty;
+use dns_data::{JoinFault, List, Name, NoMemory, RrType};
+use graph_form::{Seen, first_types};
+use net_model::{Cut, Fault};
+use std::alloc::Global;
+
+impl<'h, 'a> StraightEnds<'h, 'a> {
+    /// The faults that the ends tell of a query, in fault order, each once and with the first type: referrals are met with
+    /// all types alike.
+    pub fn shown(&self, alloc: Global, query: &Name) -> Result<List<Seen>, NoMemory>
+        ensures { IfOk result (AreFirstTypes (with_type types.A (told_of query.now self.now))) }
+    {
+        let mut told = List::new(alloc);
+        for one in self.faulty.as_slice() {
+            put_faults(alloc, query, one, &mut told)?;
+        }
+        // Named, since the proof speaks of the list that comes where memory suffices.
+        let shown = first_types(alloc, told)?;
+        Ok(shown)
+    }
+}
+
+/// Puts the faults behind the others that the query shows by a referral, with the first type.
+fn put_faults(
+    alloc: Global,
+    query: &Name,
+    one: &Faulty<'_>,
+    told: &mut List<Seen>,
+) -> Result<(), NoMemory>
+    ensures { OnOk result (told.new ≡ told.old ++ with_type types.A (flag_faults one.now.flags (faulty_cut query.now one.now))) }
+{
+    put_shown(alloc, one.flags.lame, Fault::Lame, query, one, told)?;
+    put_shown(alloc, one.flags.differs, Fault::Differs, query, one, told)?;
+    put_shown(alloc, one.flags.no_glue, Fault::NoGlue, query, one, told)?;
+    put_shown(
+        alloc,
+        one.flags.glue_differs,
+        Fault::GlueDiffers,
+        query,
+        one,
+        told,
+    )
+}
+
+/// Puts the fault of this kind of a referral behind the others, with the first type, where it is shown.
+fn put_shown<F: Fn(Cut) -> Fault>(
+    alloc: Global,
+    shown: bool,
+    kind: F,
+    query: &Name,
+    one: &Faulty<'_>,
+    told: &mut List<Seen>,
+) -> Result<(), NoMemory>
+    requires { F.IsAlwaysCallable kind }
+    ensures { OnOk result ((fault : FaultValue) → ((made : FaultValue) → F.post kind (faulty_cut query.now one.now) made → made ≡ fault)
+        → told.new ≡ told.old ++ with_type types.A (if_shown shown fault)) }
+{
+    if shown {
+        let cut = cut_of(alloc, query, one)?;
+        return told.push(Seen {
+            fault: kind(cut),
+            rtype: RrType::A,
+        });
+    }
+    Ok(())
+}
+
+/// The name server of the zone cut to which the referral of the query leads, with names of its own.
+fn cut_of(alloc: Global, query: &Name, one: &Faulty<'_>) -> Result<Cut, NoMemory>
+    ensures { IfOk result (λ cut. cut ≡ faulty_cut query.now one.now) }
+{
+    Ok(Cut {
+        server: one.server.copy(alloc)?,
+        zone: one.zone.copy(alloc)?,
+        cut: front_of(alloc, query, one.cut as usize)?,
+        ns: one.ns.copy(alloc)?,
+    })
+}
+
+/// The name of the first labels of a name, as many as asked for.
+fn front_of(alloc: Global, name: &Name, count: usize) -> Result<Name, NoMemory>
+    ensures { IfOk result (λ front. front ≡ take count name.now) }
+{
+    // The labels are read, so that it is known here that they have at most 255 octets.
+    let _ = name.labels();
+    match Name::root().join_labels(alloc, &name.front(count)) {
+        Ok(front) => Ok(front),
+        Err(JoinFault::NoMemory) => Err(NoMemory),
+        Err(JoinFault::TooLong) => unreachable!(),
+    }
+}
