@@ -5,6 +5,7 @@ use Rattle.std.specs.List.{AllZip, IsDistinct}
 use Rattle.std.proofs.lemmas.Option.{slice_get_within}
 use Rattle.dns_data.specs.Name.{Labels, wire_octets}
 use Rattle.dns_data.specs.declared.rr_type.RrType.{RrType}
+use Rattle.dns_data.specs.declared.rr_type.RrType.TheVariants as rr
 use Rattle.dns_data.proofs.DifferentItems.{fits_among}
 use Rattle.name_rules.specs.SymName.{tail_labels}
 use Rattle.name_rules.specs.declared.sym_name.SymName.{SymName}
@@ -23,11 +24,13 @@ use Rattle.interp_graph.specs.Asked.{AskedWith, IsAsked}
 use Rattle.interp_graph.specs.Listed.{Adds, Comes, ComesFrom, ComesWith, OfOne, Passes, but_cname, every}
 use Rattle.interp_graph.specs.Making.{AreNodes, nodes_of, typed}
 use Rattle.interp_graph.specs.StateKey.{state_eq}
+use Rattle.interp_graph.specs.Steps.{AreLocated}
 use Rattle.interp_graph.proofs.Counts.{listed_has, many_come, many_listed, pairs_listed}
 use Rattle.interp_graph.proofs.Finished.{is_graph, one_node, pair_is}
 use Rattle.interp_graph.proofs.ItemsByNumber.{from_row, side_by_side}
 use Rattle.interp_graph.proofs.KeysByNumber.{distinct_states}
 use Rattle.interp_graph.proofs.Listing.{no_fewer, still_listed}
+use Rattle.interp_graph.proofs.Located.{begin_located, comes_located}
 use Rattle.interp_graph.proofs.Standing.{begins, comes_stand}
 use Rattle.interp_graph.proofs.TwoTurns.{all_come}
 use Rattle.interp_graph.proofs.TypesAlike.{typed_rest}
@@ -75,6 +78,18 @@ module _ (setting : Setting) {begin none started : List State} (empty : none ≡
           | inr behind ↦ all_come setting but_cname first states adds begin (λ one has t other. first_come one has t refl) state (item_there states at state is) rtype
               (sym (ap (λ (among : RrType → Bool). among rtype) (typed_rest (length first) at behind.0)) ∙ reaches)
         ]
+
+-- the states in which a query begins have the origins of their zones
+pub begun_located : (config : Config) (rewrites : ℕ) (query : Labels) (setting : Setting) → setting ≡ following config rewrites (server_names config)
+    → (begin : List State) → begin ≡ start config query → AreLocated setting.config begin
+begun_located config rewrites query setting read_in begin is_begin =
+    subst (λ (s : Setting). AreLocated s.config begin) (sym read_in) (subst (AreLocated config) (sym is_begin) (begin_located config query))
+
+-- and so have the states that are listed first
+pub started_located : (setting : Setting) (begin none started : List State) → none ≡ [] → AreLocated setting.config begin
+    → Adds (OfOne (λ state one. state ≡ one) begin) none started → AreLocated setting.config started
+started_located setting begin none started empty located adds state has =
+    comes_located setting begin rr.A state located (started_come setting empty adds state has rr.A refl)
 
 module _ (config : Config) (rewrites : ℕ) (query : Labels) {setting : Setting} (read_in : setting ≡ following config rewrites (server_names config))
     {begin : List State} (is_begin : begin ≡ start config query) where

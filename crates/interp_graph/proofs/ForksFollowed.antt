@@ -21,8 +21,8 @@ use Rattle.zone_lookup.specs.Alike.{AreSplit, HasSome}
 use Rattle.zone_lookup.specs.Steps.{branch_of}
 use Rattle.zone_lookup.specs.declared.steps.Step.{Step}
 use Rattle.zone_lookup.specs.declared.steps.Step.TheVariants as step_as
-use Rattle.interp_graph.specs.Listed.{Adds, ForkGoes, OfOne, but_cname, every}
-use Rattle.interp_graph.specs.Making.{IsArmOf, IsDraft, IsDraftOf, IsFinishedOf, IsNode, TellsStep, cname_goes, goes_on}
+use Rattle.interp_graph.specs.Listed.{Adds, ForkGoes, OfOne, StepGoes, but_cname, every}
+use Rattle.interp_graph.specs.Making.{IsArmOf, IsDraft, IsDraftOf, IsFinishedOf, IsNode, TellsStep, TurnGoes, cname_goes, fork_goes_on, goes_on}
 use Rattle.interp_graph.specs.Steps.{AreForks, types_of}
 use Rattle.interp_graph.specs.declared.step.Draft.{Draft}
 use Rattle.interp_graph.specs.declared.step.Draft.TheVariants.{Done, Left}
@@ -84,16 +84,17 @@ node_of setting states first among state forks arms are told inside =
           let of = beside (IsArmOf states) arms forks arm told has in inside arm of.0 of.1 of.2 typed;
     }
 
+-- a step by which walks go to a state goes on
+step_goes : (one : Step) (to : State) → StepGoes (branch_of one) to → goes_on one ≡ true
+step_goes (step_as.Go hop state) to goes = refl
+step_goes (step_as.End hop leaf) to (other, is) = cc
+
 -- a branch that leads on tells a step that goes on to a listed state
 led_on : (states : List State) (arm : Arm) (fork : Fork) (hop : Hop) (to : ℕ) → IsArmOf states arm fork → Contains arm.branches (Go hop to)
     → (to < length states) × (list_any goes_on fork.steps ≡ true)
 led_on states arm fork hop to is goes =
     let of = beside (λ b (s : Step). TellsStep states b (branch_of s)) arm.branches fork.steps (Go hop to) is.told goes in
-    (slice_get_within states to of.2.0 of.2.2, any_has goes_on fork.steps of.0 of.1 (by of.0 of.2.0 of.2.1))
-  where
-    by : (one : Step) (state : State) → branch_of one ≡ step.Go hop state → goes_on one ≡ true
-    by (step_as.Go h s) state is = refl
-    by (step_as.End h leaf) state is = cc
+    (slice_get_within states to of.2.0 of.2.2, any_has goes_on fork.steps of.0 of.1 (step_goes of.0 of.2.0 (hop, of.2.1)))
 
 -- the draft that is made of a state's forks is one of its node, if walks of all types reach the state
 pub draft_made : (setting : Setting) (states : List State) (state : State) (forks : List Fork) (draft : Draft) → AreForks setting state every forks
@@ -117,6 +118,11 @@ node_finished before after adds setting first among state (Left forks) arms is t
     (led_on after arm fork hop to so goes).1)) ∙ is.stays)))
 
 -- ---- to which states walks go on
+
+-- where walks go on by none of the forks, they come to no state
+pub none_goes : (forks : List Fork) → list_any fork_goes_on forks ≡ false → (to : State) → OfOne ForkGoes forks to → TurnGoes forks to
+none_goes forks none to (fork, has, (one, there, goes)) =
+    absurd (true≢false (sym (any_has fork_goes_on forks fork has (any_has goes_on fork.steps one there (step_goes one to goes))) ∙ none))
 
 module _ (setting : Setting) (state : State) (among : RrType → Bool) (forks : List Fork) (are : AreForks setting state among forks) where
   -- a fork has a type, and with it walks go on from the state to those to which the fork goes

@@ -5,6 +5,7 @@ pub mod Listing
 pub mod KeysByNumber
 pub mod ForksFollowed
 pub mod TwoTurns
+pub mod Located
 pub mod Finished
 pub mod Counts
 pub mod Built

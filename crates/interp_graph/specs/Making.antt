@@ -50,6 +50,10 @@ abbrev pub goes_on : Step → Bool
 goes_on (step_as.Go hop state) = true
 goes_on (step_as.End hop leaf) = false
 
+-- walks go on by the fork
+abbrev pub fork_goes_on : Fork → Bool
+fork_goes_on fork = list_any goes_on fork.steps
+
 -- walks of type CNAME go on by the fork
 abbrev pub cname_goes : Fork → Bool
 cname_goes fork = has_bit fork.types rr.Cname && list_any goes_on fork.steps

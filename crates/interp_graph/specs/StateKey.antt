@@ -1,11 +1,12 @@
 -- Equality of states. The contracts of inner calls alone cite it.
-use Rattle.std.specs.Prelude.{◌≡◌, ℕ, Bool, true, false, ◌&&◌, ◌==◌, List, ◌++◌, Option, Some, None, IsTrue}
+use Rattle.std.specs.Prelude.{◌≡◌, ℕ, Bool, true, false, ◌&&◌, ◌==◌, List, ◌∷◌, Option, Some, None, IsTrue}
 use Rattle.std.proofs.Common.{refl, sym, ap, subst, true≢false}
 use Rattle.std.specs.Hash as fed
 use mathlib.Core.Bool.{beq}
 use Rattle.std.specs.Bool.{Decides}
 use Rattle.std.specs.Cmp.{IsEquivalence, decided, unsigned_Decides, booleans_Decides}
 use Rattle.std.proofs.lemmas.Bool.{and_parts, and_from}
+use Rattle.dns_data.specs.Encoding.{encoded}
 use Rattle.dns_data.specs.Name.{name_eq}
 use Rattle.dns_data.proofs.Names.{name_eq_decides}
 use Rattle.net_model.specs.declared.place.Place.{Place}
@@ -82,11 +83,11 @@ state_decides a b = (
 pub state_equivalence : IsEquivalence state_eq
 state_equivalence = decided state_eq state_decides
 
--- ---- what is hashed of a state: the labels of its server and its name, and the rewrites used
+-- ---- what is hashed of a state: its server and its name, each as its octets, and the rewrites used
 
 -- what is hashed of a state, in order
 abbrev pub state_writes : State → List (List ℕ)
-state_writes state = state.server ++ (state.name ++ fed.u32 state.used)
+state_writes state = encoded state.server ∷ encoded state.name ∷ fed.u32 state.used
 
 -- of equal states the same is hashed
 pub equal_writes : (a b : State) → IsTrue (state_eq a b) → state_writes a ≡ state_writes b

@@ -1,8 +1,10 @@
 -- What a state leads to, for some types at once. The contracts of inner calls alone cite it.
-use Rattle.std.specs.Prelude.{◌≡◌, Bool, true, List, map, Contains}
+use Rattle.std.specs.Prelude.{◌≡◌, Bool, true, List, map, option_map, Contains}
 use Rattle.dns_data.specs.TypeSet.{has_bit}
 use Rattle.dns_data.specs.declared.rr_type.RrType.{RrType}
+use Rattle.net_model.specs.Nearest.{nearest_of}
 use Rattle.net_model.specs.Step.{Setting, next}
+use Rattle.net_model.specs.declared.config.Config.{Config}
 use Rattle.net_model.specs.declared.walk.State.{State}
 use Rattle.zone_lookup.specs.Alike.{AreSplit}
 use Rattle.zone_lookup.specs.Steps.{branch_of}
@@ -21,3 +23,11 @@ types_of fork = fork.types
 pub record AreForks (setting : Setting) (state : State) (among : RrType → Bool) (forks : List Fork) : Type 0 where
   pub split : AreSplit among (map types_of forks)
   pub tell : (fork : Fork) → Contains forks fork → IsFork setting state fork
+
+-- the state has the origin of the zone in which its server looks its name up, or none where that holds no zone for the name
+abbrev pub IsLocated : Config → State → Type 0
+IsLocated config state = state.zone ≡ option_map (λ zone. zone.origin) (nearest_of config state.server state.name)
+
+-- so have all of these states
+abbrev pub AreLocated : Config → List State → Type 0
+AreLocated config states = (state : State) → Contains states state → IsLocated config state

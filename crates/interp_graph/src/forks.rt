@@ -1,16 +1,19 @@
 //! What a state leads to while every configured server is followed, by what its server replies.
 
-ghost use Rattle.std.specs.Prelude.{◌≡◌, IfOk};
+ghost use Rattle.std.specs.Prelude.{◌≡◌, true, option_map, IfOk, IfSome};
+ghost use Rattle.dns_data.specs.Name.{is_prefix};
 ghost use Rattle.dns_data.specs.TypeSet.{has_bit};
+ghost use Rattle.net_model.specs.Nearest.{nearest_of};
 ghost use Rattle.zone_lookup.specs.Alike.{GoAlike, HasSome};
 ghost use Rattle.zone_lookup.specs.Reply.{IsReply};
-ghost use Rattle.interp_graph.specs.Steps.{AreForks, IsFork};
+ghost use Rattle.interp_graph.specs.Steps.{AreForks, IsFork, IsLocated};
 
 use crate::step::Fork;
 use dns_data::{List, NoMemory, TypeSet};
 use net_model::State;
 use std::alloc::Global;
 use zone_lookup::{Reply, Walker, next_steps, reply_in, split_by};
+use zone_tree::Tree;
 
 /// What a state leads to for each of these types.
 pub(crate) fn forks(
@@ -19,15 +22,29 @@ pub(crate) fn forks(
     state: &State,
     types: TypeSet,
 ) -> Result<List<Fork>, NoMemory>
+    requires { IsLocated walker.now.config state.now }
     ensures { IfOk result (AreForks walker.now state.now (has_bit types)) }
 {
     // Not by `reply_of`: a reply whose tree isn't named here has no proof.
-    match walker.hosts().nearest_of(&state.server, &state.name) {
+    match zone_for(walker, state) {
         Some(tree) => {
             let reply = reply_in(tree, &state.name);
             forks_by(alloc, walker, state, &reply, types)
         }
         None => forks_by(alloc, walker, state, &Reply::Outside, types),
+    }
+}
+
+/// The tree of the zone in which the state's server looks its name up, or `None` where it holds none. It isn't looked for
+/// where the state has no origin of it.
+fn zone_for<'h, 'a>(walker: &Walker<'h, 'a>, state: &State) -> Option<&'h Tree<'a>>
+    requires { IsLocated walker.now.config state.now }
+    ensures zone { option_map (λ tree. tree.now.zone) result ≡ nearest_of walker.now.config state.now.server state.now.name }
+    ensures inside { IfSome result (λ tree. is_prefix tree.now.zone.origin state.now.name ≡ true) }
+{
+    match &state.zone {
+        Some(_) => walker.hosts().nearest_of(&state.server, &state.name),
+        None => None,
     }
 }
 

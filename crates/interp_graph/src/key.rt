@@ -1,9 +1,9 @@
 //! States as keys.
 
-ghost use Rattle.std.specs.Prelude.{◌≡◌, fold};
+ghost use Rattle.std.specs.Prelude.{◌≡◌};
 ghost use Rattle.interp_graph.specs.StateKey.{state_eq};
 
-use dns_data::{Boxed, Name};
+use dns_data::Boxed;
 use net_model::State;
 use std::hash::{Hash, Hasher};
 use std::marker::Model;
@@ -67,8 +67,6 @@ impl Eq for Key {
 }
 
 impl Hash for Key {
-    ghost use Rattle.std.specs.Prelude.{◌++◌};
-    ghost use Rattle.std.specs.Hash as fed;
     ghost use Rattle.interp_graph.specs.StateKey.{state_writes, equal_writes};
 
     ghost hash_input = { state_writes };
@@ -77,19 +75,9 @@ impl Hash for Key {
 
     fn hash<H: Hasher>(&self, state: &mut H) {
         let own = self.state();
-        write_labels(&own.server, state);
-        write_labels(&own.name, state);
+        state.write(own.server.encoding());
+        state.write(own.name.encoding());
         state.write_u32(own.used);
-    }
-}
-
-/// Writes a name's labels.
-fn write_labels<H: Hasher>(name: &Name, state: &mut H)
-    ensures { state.new ≡ fold H.write state.old name.now }
-{
-    let mut labels = name.labels();
-    while let Some(label) = labels.next() {
-        state.write(label);
     }
 }
 

@@ -2,11 +2,12 @@
 //!
 //! Only an alias sends types different ways: walks of type CNAME end there, and those of the other types go on.
 
-ghost use Rattle.std.specs.Prelude.{◌≡◌, ◌≤◌, length, IfOk, OnOk, IsErrOf};
+ghost use Rattle.std.specs.Prelude.{◌≡◌, ◌≤◌, false, length, IfOk, OnOk, IsErrOf};
 ghost use Rattle.std.specs.List.{AllZip, IsDistinct, list_any};
 ghost use Rattle.interp_graph.specs.StateKey.{state_eq};
 ghost use Rattle.interp_graph.specs.Listed.{ComesFrom, Lists, OfOne, Passes, DraftGoes, ForkGoes, every, but_cname};
-ghost use Rattle.interp_graph.specs.Making.{AreDrafts, AreNodes, IsDraftOf, IsDraftOr, IsFinishedOf, TurnGoes, cname_goes, goes_on};
+ghost use Rattle.interp_graph.specs.Making.{AreDrafts, AreNodes, IsDraftOf, IsDraftOr, IsFinishedOf, TurnGoes, cname_goes, fork_goes_on, goes_on};
+ghost use Rattle.interp_graph.specs.Steps.{AreLocated, IsLocated};
 
 use crate::fault::GraphFault;
 use crate::following::arms;
@@ -27,7 +28,8 @@ pub(crate) fn follow_all(
     states: &mut KeySet,
     most: u32,
 ) -> Result<List<Draft>, GraphFault>
-    requires { length states.old ≤ most }
+    requires few { length states.old ≤ most }
+    requires located { AreLocated walker.now.config states.old }
     ensures lists { OnOk result (Lists (ComesFrom walker.now every states.old) most states.old states.new) }
     ensures drafts { IfOk result (λ drafts. AreDrafts walker.now states.new drafts) }
     ensures passed { IsErrOf result GraphFault.StatesPassed → Passes (ComesFrom walker.now every states.old) most states.old }
@@ -42,7 +44,7 @@ pub(crate) fn follow_all(
 }
 
 /// The draft of a state's node by the state's forks. They are followed where walks of type CNAME go on, and so those of all
-/// types with them.
+/// types with them; and where all end.
 fn draft(
     alloc: Global,
     states: &mut KeySet,
@@ -56,9 +58,35 @@ fn draft(
 {
     if some_cname_goes(forks.items()) {
         Ok(Draft::Done(arms(alloc, states, most, forks)?))
-    } else {
+    } else if some_goes(forks.items()) {
         Ok(Draft::Left(forks))
+    } else {
+        ended(alloc, states, most, forks)
     }
+}
+
+/// The draft of a state's node by forks by which no walk goes on.
+fn ended(
+    alloc: Global,
+    states: &mut KeySet,
+    most: u32,
+    forks: List<Fork>,
+) -> Result<Draft, GraphFault>
+    requires few { length states.old ≤ most }
+    requires end { list_any fork_goes_on forks ≡ false }
+    ensures lists { OnOk result (Lists (TurnGoes forks) most states.old states.new) }
+    ensures draft { IfOk result (λ draft. IsDraftOf states.new forks draft) }
+    ensures passed { IsErrOf result GraphFault.StatesPassed → Passes (TurnGoes forks) most states.old }
+{
+    let arms = arms(alloc, states, most, forks)?;
+    Ok(Draft::Done(arms))
+}
+
+/// Whether walks go on by one of the forks.
+fn some_goes(forks: &[Fork]) -> bool
+    ensures { result ≡ list_any fork_goes_on forks.now }
+{
+    forks.iter().any(|fork| some_goes_on(fork.steps.items()))
 }
 
 /// Whether walks of type CNAME go on by one of the forks.
@@ -92,6 +120,7 @@ pub(crate) fn follow_rest(
     drafts: List<Draft>,
 ) -> Result<List<List<Arm>>, GraphFault>
     requires few { length states.old ≤ most }
+    requires located { AreLocated walker.now.config states.old }
     requires drafts { AreDrafts walker.now states.old drafts }
     ensures lists { OnOk result (Lists (ComesFrom walker.now but_cname states.old) most states.old states.new) }
     ensures nodes { IfOk result (λ arms. AreNodes walker.now states.new (length states.old) arms) }
@@ -117,6 +146,7 @@ fn draft_or_forks(
     types: TypeSet,
     given: Option<Draft>,
 ) -> Result<Draft, NoMemory>
+    requires { IsLocated walker.now.config state.now }
     ensures { IfOk result (IsDraftOr walker.now state.now types given) }
 {
     match given {

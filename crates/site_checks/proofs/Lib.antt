@@ -1,3 +1,4 @@
+mod AlikeTypes
 mod EqualEnds
 mod GoingOn
 mod InOrder

@@ -2,6 +2,7 @@ pub use Rattle.dns_data.specs.Spelling
 pub use Rattle.graph_form.specs.GraphOf
 pub use Rattle.graph_form.specs.Report
 pub mod AOnly
+pub mod AlikeEnds
 pub mod Answering
 pub mod EndPlaces
 pub mod Ends

@@ -1,6 +1,6 @@
 -- The ends of the paths of a graph, and the search for them. The contracts of inner calls alone cite it.
 use Rattle.std.specs.Prelude.{◌≡◌, ℕ, zero, suc, Bool, true, ◌&&◌, ◌||◌, nat_lt, List, [], ◌∷◌, length, Option, Some, None, slice_get, if◌then◌else◌, ◌==◌, Contains}
-use Rattle.std.specs.List.{flat_map}
+use Rattle.std.specs.List.{flat_map, fold}
 use Rattle.std.specs.Option.{option_map_or}
 use Rattle.dns_data.specs.Name.{Labels}
 use Rattle.dns_data.specs.RrType.{types}
@@ -13,7 +13,8 @@ use Rattle.graph_form.specs.declared.node.Node.{Node}
 use Rattle.net_model.specs.Step.{Setting}
 use Rattle.net_model.specs.declared.walk.State.{State}
 use Rattle.net_model.proofs.StepBounds.{IsNear}
-use Rattle.site_checks.specs.Ends.{typed_end}
+use Rattle.site_checks.specs.Ends.{end_eq, typed_end}
+use Rattle.site_checks.specs.Once.{with_new}
 use Rattle.site_checks.specs.declared.views.TypedEnd.{TypedEnd}
 
 -- ---- the ends of paths
@@ -40,6 +41,10 @@ ends_from graph rtype at = ends_within (length graph.nodes) graph rtype at
 -- the ends of all paths of a graph with a type
 abbrev pub ends_with : PlainGraph → RrType → List TypedEnd
 ends_with graph rtype = flat_map (ends_from graph rtype) graph.starts
+
+-- each of these ends once, where it comes first
+abbrev pub once_with : PlainGraph → RrType → List TypedEnd
+once_with graph rtype = fold (with_new end_eq) [] (ends_with graph rtype)
 
 -- the ends of all paths of a graph, type by type
 abbrev pub path_ends : PlainGraph → List TypedEnd

@@ -1,14 +1,17 @@
 //! The ends of the walks of a query, found without listing walks.
 
-ghost use Rattle.std.specs.Prelude.{◌≡◌, ◌<◌, [], length, IfOk, OnOk};
-ghost use Rattle.std.specs.List.{fold};
+ghost use Rattle.std.specs.Prelude.{◌≡◌, ◌<◌, ◌++◌, length, map, IfOk, OnOk};
+ghost use Rattle.std.specs.List.{AllByRecursion, flat_map, fold};
 ghost use Rattle.dns_data.specs.Name.{Labels};
+ghost use Rattle.dns_data.specs.RrType.{types};
 ghost use Rattle.graph_form.specs.GraphOf.{IsGraphOf};
 ghost use Rattle.net_model.specs.Step.{Setting};
 ghost use Rattle.site_checks.specs.Ends.{AreEnds, end_eq, typed_end};
+ghost use Rattle.site_checks.specs.AlikeEnds.{AreAlikeEnds, retyped};
 ghost use Rattle.site_checks.specs.Once.{with_new};
-ghost use Rattle.site_checks.specs.PathEnds.{AreDone, IsMet, ends_from, ends_with, path_ends};
+ghost use Rattle.site_checks.specs.PathEnds.{AreDone, IsMet, ends_from, ends_with, once_with};
 
+use crate::alike::{AlikeEnds, of_type, put_again, types_as};
 use crate::end_set::EndSet;
 use crate::views::{TypedEnd, View};
 use dns_data::{Boxed, List, Name, NoMemory, RrType};
@@ -31,16 +34,71 @@ pub fn view(alloc: Global, class: &Class, query: &Name, graph: &Graph) -> Result
     })
 }
 
-/// The ends of all paths of the graph, type by type, each once and where it comes first.
+/// The ends of all paths of the graph, type by type, each once and where it comes first. They are searched for once for
+/// the types that go the same way everywhere.
 fn ends_of(alloc: Global, graph: &Graph) -> Result<List<TypedEnd>, NoMemory>
     requires of_query { (setting : Setting) × (query : Labels) × IsGraphOf setting query graph.now }
-    ensures { IfOk result (λ ends. ends ≡ fold (with_new end_eq) [] (path_ends graph.now)) }
+    ensures { IfOk result (λ ends. ends ≡ flat_map (once_with graph.now) types) }
+{
+    let mut known = List::new(alloc);
+    let mut ends = List::new(alloc);
+    for rtype in RrType::ALL.iter() {
+        put_type(alloc, graph, *rtype, &mut known, &mut ends)?;
+    }
+    Ok(ends)
+}
+
+/// Puts the ends of all paths with the type behind the others, each once and where it comes first. They are those of another
+/// type where it is known that this goes the same way; else they are known from now on.
+fn put_type(
+    alloc: Global,
+    graph: &Graph,
+    rtype: RrType,
+    known: &mut List<AlikeEnds>,
+    ends: &mut List<TypedEnd>,
+) -> Result<(), NoMemory>
+    requires of_query { (setting : Setting) × (query : Labels) × IsGraphOf setting query graph.now }
+    requires known { AllByRecursion (AreAlikeEnds graph.now) known.old }
+    ensures known { OnOk result (AllByRecursion (AreAlikeEnds graph.now) known.new) }
+    ensures ends { OnOk result (ends.new ≡ ends.old ++ once_with graph.now rtype) }
+{
+    if let Some(alike) = of_type(known.items(), rtype) {
+        return put_again(alloc, alike.ends.items(), rtype, ends);
+    }
+    put_first(alloc, graph, rtype, known, ends)
+}
+
+/// Puts the ends of all paths with the type behind the others, each once and where it comes first. They are searched for,
+/// and are known from now on.
+fn put_first(
+    alloc: Global,
+    graph: &Graph,
+    rtype: RrType,
+    known: &mut List<AlikeEnds>,
+    ends: &mut List<TypedEnd>,
+) -> Result<(), NoMemory>
+    requires of_query { (setting : Setting) × (query : Labels) × IsGraphOf setting query graph.now }
+    requires known { AllByRecursion (AreAlikeEnds graph.now) known.old }
+    ensures known { OnOk result (AllByRecursion (AreAlikeEnds graph.now) known.new) }
+    ensures ends { OnOk result (ends.new ≡ ends.old ++ once_with graph.now rtype) }
+{
+    let alike = alike_ends(alloc, graph, rtype)?;
+    put_again(alloc, alike.ends.items(), rtype, ends)?;
+    known.push(alike)
+}
+
+/// The ends of all paths with the type, with the types that go the same way everywhere.
+fn alike_ends(alloc: Global, graph: &Graph, rtype: RrType) -> Result<AlikeEnds, NoMemory>
+    requires of_query { (setting : Setting) × (query : Labels) × IsGraphOf setting query graph.now }
+    ensures alike { IfOk result (AreAlikeEnds graph.now) }
+    ensures own { IfOk result (λ alike. map (retyped rtype) alike.ends ≡ once_with graph.now rtype) }
 {
     let mut ends = EndSet::new(alloc);
-    for rtype in RrType::ALL.iter() {
-        put_ends_with(alloc, graph, *rtype, &mut ends)?;
-    }
-    Ok(ends.into_list())
+    put_ends_with(alloc, graph, rtype, &mut ends)?;
+    Ok(AlikeEnds {
+        types: types_as(graph, rtype),
+        ends: ends.into_list(),
+    })
 }
 
 /// Puts the ends of all paths with the type behind the others, in order, each unless it is there.

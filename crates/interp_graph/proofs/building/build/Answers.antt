@@ -1,10 +1,13 @@
 use Rattle.std.proofs.Common.{length, refl, sym, ap, subst, arith}
+use Rattle.dns_data.specs.declared.rr_type.RrType.TheVariants as rr
 use Rattle.name_rules.specs.SymName.{whole}
 use Rattle.net_model.specs.Nearest.{server_names}
 use Rattle.net_model.specs.Step.{following}
 use Rattle.graph_form.specs.Graph.{PlainGraph, pairs_of}
 use Rattle.graph_form.specs.GraphOf.{IsExact, IsGraphOf}
-use Rattle.interp_graph.proofs.Built.{asked_short, built_exact, built_few, built_graph, built_pairs, first_come, first_passed, rest_passed, started_come}
+use Rattle.interp_graph.specs.Listed.{every}
+use Rattle.interp_graph.proofs.Built.{asked_short, begun_located, built_exact, built_few, built_graph, built_pairs, first_come, first_passed, rest_passed, started_come, started_located}
+use Rattle.interp_graph.proofs.Located.{all_located}
 use Rattle.interp_graph.proofs.Finished.{few_nodes}
 use Rattle.interp_graph.proofs.OpenNames.{stands_for, reaches_most}
 use Rattle.interp_graph.proofs.Passing.{passed_on}
@@ -12,6 +15,20 @@ use Rattle.interp_graph.proofs.building.build.Goals as goal
 
 pub first_states-requires : goal.first_states-requires
 first_states-requires c = asked_short c.args.hosts.now c.args.name.now c.requires
+
+pub follow_all-requires-clause-located : goal.follow_all-requires-clause-located
+follow_all-requires-clause-located c =
+    started_located c.following_all-walker.result c.in_ok-begin.begin c.new-states.result c.numbered.new.states c.new-states.ensures
+    (begun_located c.args.hosts.now c.args.rewrites (whole c.args.name.now) c.following_all-walker.result c.following_all-walker.ensures c.in_ok-begin.begin c.in_ok-begin.ensures)
+    c.in_ok-starts.ensures.lists.adds
+
+pub follow_rest-requires-clause-located : goal.follow_rest-requires-clause-located
+follow_rest-requires-clause-located c =
+    all_located c.following_all-walker.result every rr.A refl c.numbered.new.states c.follow_all.new.states
+    (started_located c.following_all-walker.result c.in_ok-begin.begin c.new-states.result c.numbered.new.states c.new-states.ensures
+    (begun_located c.args.hosts.now c.args.rewrites (whole c.args.name.now) c.following_all-walker.result c.following_all-walker.ensures c.in_ok-begin.begin c.in_ok-begin.ensures)
+    c.in_ok-starts.ensures.lists.adds)
+    c.in_ok-drafts.ensures.lists.adds
 
 pub returns-in_err-starts-clause-passed : goal.returns-in_err-starts-clause-passed
 returns-in_err-starts-clause-passed c = λ is.

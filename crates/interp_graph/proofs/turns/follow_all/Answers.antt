@@ -1,12 +1,23 @@
 use Rattle.std.proofs.Common.{◌≡◌, Some, length, refl, sym, ap, ◌∙◌, subst}
 use Rattle.std.specs.Prelude.{slice_get}
 use Rattle.dns_data.specs.TypeSet.{has_bit}
+use Rattle.dns_data.specs.declared.rr_type.RrType.TheVariants as rr
+use Rattle.graph_form.proofs.Places.{item_there}
 use Rattle.interp_graph.specs.Listed.{every}
 use Rattle.interp_graph.specs.Steps.{AreForks}
 use Rattle.interp_graph.proofs.Listing.{passes_later}
+use Rattle.interp_graph.proofs.Located.{all_located}
 use Rattle.interp_graph.proofs.Passing.{passed_on}
 use Rattle.interp_graph.proofs.TwoTurns.{FirstSoFar, first_more, forks_as, turn_comes}
 use Rattle.interp_graph.proofs.turns.follow_all.Goals as goal
+
+pub forks-requires : goal.forks-requires
+forks-requires c =
+    let now = c.loop-alloc.states in
+    let next : slice_get now (length c.loop-alloc.drafts) ≡ Some c.state-state.result.now =
+    ap (slice_get now) (sym c.len-in-loop-alloc-2.ensures) ∙ (c.key.ensures ∙ ap Some (sym c.state-state.ensures)) in
+    all_located c.args.walker.now every rr.A refl c.args.states.now now c.requires.located c.loop-alloc.invariant.lists.adds c.state-state.result.now
+    (item_there now (length c.loop-alloc.drafts) c.state-state.result.now next)
 
 pub returns-in_err-draft-clause-passed : goal.returns-in_err-draft-clause-passed
 returns-in_err-draft-clause-passed c =

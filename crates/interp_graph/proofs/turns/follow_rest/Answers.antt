@@ -1,7 +1,11 @@
 use Rattle.std.proofs.Common.{◌≡◌, List, Some, length, sym, ap, ◌∙◌, subst, refl}
 use Rattle.std.specs.Prelude.{slice_get}
+use Rattle.dns_data.specs.declared.rr_type.RrType.TheVariants as rr
+use Rattle.graph_form.proofs.Places.{item_there}
+use Rattle.interp_graph.specs.Listed.{but_cname}
 use Rattle.interp_graph.specs.declared.step.Draft.{Draft}
 use Rattle.interp_graph.proofs.Listing.{passes_later}
+use Rattle.interp_graph.proofs.Located.{all_located}
 use Rattle.interp_graph.proofs.Passing.{passed_on}
 use Rattle.interp_graph.proofs.TwoTurns.{RestSoFar, others_than, rest_begun, rest_comes, rest_more}
 use Rattle.interp_graph.proofs.turns.follow_rest.Goals as goal
@@ -11,6 +15,14 @@ loop-alloc-init c =
     subst (λ (left : List Draft). RestSoFar c.args.walker.now c.args.most c.args.states.now c.args.states.now left c.new-nodes.result) (sym c.into_iter-left.ensures.into_iter_gives.0)
     (subst (RestSoFar c.args.walker.now c.args.most c.args.states.now c.args.states.now c.args.drafts) (sym c.new-nodes.ensures)
     (rest_begun c.args.walker.now c.args.most c.args.states.now c.args.drafts c.requires.few c.requires.drafts))
+
+pub draft_or_forks-requires : goal.draft_or_forks-requires
+draft_or_forks-requires c =
+    let now = c.loop-alloc.states in
+    let next : slice_get now (length c.loop-alloc.nodes) ≡ Some c.state-state.result.now =
+    ap (slice_get now) (sym c.len-in-loop-alloc-2.ensures) ∙ (c.key.ensures ∙ ap Some (sym c.state-state.ensures)) in
+    all_located c.args.walker.now but_cname rr.A refl c.args.states.now now c.requires.located c.loop-alloc.invariant.lists.adds c.state-state.result.now
+    (item_there now (length c.loop-alloc.nodes) c.state-state.result.now next)
 
 pub returns-in_err-finished-clause-passed : goal.returns-in_err-finished-clause-passed
 returns-in_err-finished-clause-passed c =
