@@ -1,2 +1,3 @@
 pub mod KnownNames
 pub mod NameWalks
+mod WalksAtOnce

@@ -4,6 +4,7 @@ ghost use Rattle.std.specs.Prelude.{◌≡◌, IfOk};
 ghost use Rattle.net_model.specs.Step.{Setting, following};
 ghost use Rattle.name_ends.specs.Asked.{AreKnown, ends_in, type_ends};
 
+use crate::at_once::ends_at_once;
 use crate::ends::{NameEnds, TypeEnds, told_of};
 use dns_data::{Name, NoMemory, RrType};
 use plain_resolver::{ResolveFault, ends_at};
@@ -61,8 +62,19 @@ impl<'h, 'a> Asker<'h, 'a> {
         self.hosts
     }
 
-    /// How the walks of a name end. Each name is asked once.
+    /// How the walks of a name end. Each name whose walks are followed is asked once.
     pub fn ends(&mut self, alloc: Global, name: &Name) -> Result<NameEnds, NoMemory>
+        ensures ends { IfOk result (λ ends. ends ≡ ends_in self.old name.now) }
+        ensures kept { self.new ≡ self.old }
+    {
+        match ends_at_once(self.hosts, name) {
+            Some(ends) => Ok(ends),
+            None => self.ends_of_walks(alloc, name),
+        }
+    }
+
+    /// How the walks of a name end, by following them, where it wasn't asked before.
+    fn ends_of_walks(&mut self, alloc: Global, name: &Name) -> Result<NameEnds, NoMemory>
         ensures ends { IfOk result (λ ends. ends ≡ ends_in self.old name.now) }
         ensures kept { self.new ≡ self.old }
     {

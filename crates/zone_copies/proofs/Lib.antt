@@ -1,2 +1,3 @@
 mod OtherRecords
+mod PlainRecords
 mod Worked

@@ -1,5 +1,7 @@
 -- Columns that are put one behind the other.
 use Rattle.std.proofs.Common.{◌≡◌, ℕ, ◌<◌, List, [], ◌∷◌, ◌++◌, length, append_assoc, append-nil, ap, sym, ◌∙◌, arith}
+use Rattle.std.specs.List.{flat_map}
+use Rattle.std.proofs.lemmas.Grind.{flat_map-append}
 use Rattle.dns_data.specs.DataText.{separated}
 use Rattle.dns_data.proofs.Pieces.{separated-push}
 use Rattle.zone_map.specs.Columns.{tab}
@@ -37,3 +39,18 @@ seven_columns t a b c d e f g =
     let seven = more t g (a ∷ b ∷ c ∷ d ∷ e ∷ f ∷ []) (omega arith) _ six in
     let x : List ℕ = (((((((t ++ a) ++ tab) ++ b) ++ tab) ++ c) ++ tab) ++ d) ++ tab in
     ap (λ r. (r ++ tab) ++ g) (sym (append_assoc x e (tab ++ f)) ∙ sym (append_assoc (x ++ e) tab f)) ∙ seven
+
+-- four columns put one after another with tabs between them, and then others, each behind a tab
+pub four_and_more : (t a b c d : List ℕ) (others : List (List ℕ))
+    → (((((((t ++ a) ++ tab) ++ b) ++ tab) ++ c) ++ tab) ++ d) ++ flat_map (λ next. tab ++ next) others
+    ≡ t ++ separated tab (a ∷ b ∷ c ∷ d ∷ others)
+four_and_more t a b c d others =
+    let one : t ++ a ≡ t ++ separated tab (a ∷ []) = ap (λ r. t ++ r) (sym (append-nil a)) in
+    let two = more t b (a ∷ []) (omega arith) (t ++ a) one in
+    let three = more t c (a ∷ b ∷ []) (omega arith) _ two in
+    let four = more t d (a ∷ b ∷ c ∷ []) (omega arith) _ three in
+    let behind : List (List ℕ) → List ℕ = flat_map (λ next. tab ++ next) in
+    ap (λ r. r ++ behind others) four
+    ∙ append_assoc t (a ++ behind (b ∷ c ∷ d ∷ [])) (behind others)
+    ∙ ap (λ r. t ++ r) (append_assoc a (behind (b ∷ c ∷ d ∷ [])) (behind others))
+    ∙ ap (λ r. t ++ (a ++ r)) (sym (flat_map-append (λ next. tab ++ next) (b ∷ c ∷ d ∷ []) others))

@@ -1,6 +1,7 @@
 -- What is kept of rows to tell copies, with one row more.
-use Rattle.std.proofs.Common.{◌≡◌, ℕ, ◌+◌, Bool, true, false, ◌&&◌, ◌||◌, cond, List, [], ◌∷◌, ◌++◌, Option, Some, None, Ordering, Less, Equal, Greater, is_eq, is_some, option_map, length, refl, sym, ap, ◌∙◌}
-use Rattle.std.proofs.Math.Bool.{and-false, or-false}
+use Rattle.std.proofs.Common.{◌≡◌, ℕ, ◌+◌, Bool, true, false, ◌&&◌, ◌||◌, not, cond, List, [], ◌∷◌, ◌++◌, Option, Some, None, is_eq, is_some, option_map, length, refl, sym, ap, ◌∙◌}
+use Rattle.std.proofs.Math.Bool.{and-false, or-false, or-true}
+use Rattle.std.proofs.lemmas.Bool.{or_parts}
 use Rattle.std.proofs.lemmas.List.Folds.{list_any-append}
 use Rattle.std.specs.BTreeMap as map
 use Rattle.std.specs.BTreeSet as tree
@@ -8,18 +9,20 @@ use Rattle.std.specs.Cmp.Lexicographic.{lists_equiv, lists_ties, nat_list_eq_equ
 use Rattle.std.specs.List.{find, list_any}
 use Rattle.std.specs.Map.{lookup}
 use Rattle.std.specs.Option.{option_map_or}
-use Rattle.std.specs.Ordering.{ordering_then}
 use Rattle.dns_data.specs.Label.{label_cmp}
 use Rattle.dns_data.specs.Name.{Labels, name_cmp, name_eq}
 use Rattle.dns_data.specs.Rdata.{strings_eq}
 use Rattle.dns_data.proofs.Names.{name_eq_decides}
 use Rattle.net_model.specs.declared.config.Config.{Config}
+use Rattle.net_model.specs.declared.config.Zone.{Zone}
+use Rattle.net_model.specs.Nearest.{held_zone}
 use Rattle.config_load.specs.declared.loaded.RowFiles.{RowFiles}
 use Rattle.zone_copies.specs.declared.version.Version.{Version}
-use Rattle.zone_copies.specs.Versions.{octets_cmp}
-use Rattle.zone_map.specs.Copies.{copy_lines, equal_versions, is_equal_copy, line_beside, row_version}
-use Rattle.zone_map.specs.FirstCopies.{KnowsCopies, KnowsFirsts, has_key, has_origin, key_cmp, key_of, known_lines}
+use Rattle.zone_copies.specs.Versions.{octets_cmp, version_of}
+use Rattle.zone_map.specs.Copies.{copy_lines, equal_versions, is_equal_copy, is_first_copy, line_beside, row_version, version_at}
+use Rattle.zone_map.specs.FirstCopies.{AreLike, HasMoreKeys, KnowsCopies, KnowsFirsts, LikeAlone, alone_after, has_key, has_origin, is_copy_alone, key_cmp, key_of, known_lines, version_alone}
 use Rattle.zone_map.specs.declared.versions.CopyKey.{CopyKey}
+use Rattle.zone_map.specs.declared.versions.KnownCopies.{KnownCopies}
 use Rattle.alias_ends.proofs.KnownAnswers.{both_equal}
 use Rattle.zone_map.proofs.RowsBefore.{found_last, found_still}
 
@@ -122,19 +125,61 @@ module _ (config : Config) (before : List RowFiles) (row : RowFiles) where
 
 -- ---- equal copies
 
--- a set without keys knows of no row
-pub none_equal : (config : Config) (known : tree.BTreeSet CopyKey) → tree.IsEmpty known → KnowsCopies config [] known
-none_equal config known empty row = by (row_version config row) where
-  by : (version : Option Version) → false ≡ has_key known row version
-  by None = refl
-  by (Some version) = ap (λ (keys : List CopyKey). list_any (λ (key : CopyKey). is_eq (key_cmp (key_of row version) key)) keys) (sym empty)
-
 -- whether two keys are one
 keys_equal : (one other : CopyKey) → is_eq (key_cmp one other) ≡ (name_eq other.origin one.origin && strings_eq other.others one.others)
 keys_equal one other =
     both_equal (name_cmp one.origin other.origin) (slice_cmp octets_cmp one.others other.others)
     ∙ (λ i. (sym (lists_ties label_cmp texts_ties one.origin other.origin) ∙ (lists_equiv nat_list_eq_equiv).symm one.origin other.origin) i
     && (sym (lists_ties octets_cmp texts_ties one.others other.others) ∙ (lists_equiv nat_list_eq_equiv).symm one.others other.others) i)
+
+-- no version is equal to none
+equal_none : (version : Option Version) → equal_versions version None ≡ false
+equal_none None = refl
+equal_none (Some version) = refl
+
+-- a set that is unchanged has the keys of a zone more that isn't there
+pub same_keys : (keys : tree.BTreeSet CopyKey) (origin : Labels) (version : Option Version) → version ≡ None → HasMoreKeys keys keys origin version
+same_keys keys origin version none other own =
+    sym (
+    ap (λ (one : Option Version). has_key keys other own || (name_eq other origin && equal_versions own one)) none
+    ∙ ap (λ (b : Bool). has_key keys other own || (name_eq other origin && b)) (equal_none own)
+    ∙ ap (λ (b : Bool). has_key keys other own || b) (and-false (name_eq other origin))
+    ∙ or-false (has_key keys other own)
+    )
+
+-- a set with the key of a version more has it
+pub more_keys : (old new : tree.BTreeSet CopyKey) (origin : Labels) (version : Option Version) (own : Version) → version ≡ Some own
+    → tree.Updates key_cmp old new (key_of origin own) true → HasMoreKeys old new origin version
+more_keys old new origin version own is updates other one =
+    by one ∙ ap (λ (v : Option Version). has_key old other one || (name_eq other origin && equal_versions one v)) (sym is)
+  where
+    either : (was b c : Bool) → cond (b && c) true was ≡ (was || (b && c))
+    either true true true = refl
+    either true true false = refl
+    either true false c = refl
+    either false true true = refl
+    either false true false = refl
+    either false false c = refl
+
+    by : (version : Option Version) → has_key new other version ≡ (has_key old other version || (name_eq other origin && equal_versions version (Some own)))
+    by None = sym (ap (λ (b : Bool). false || b) (and-false (name_eq other origin)))
+    by (Some version) =
+        updates.0 (key_of other version)
+        ∙ ap (λ (b : Bool). cond b true (tree.contains key_cmp old (key_of other version))) (keys_equal (key_of origin own) (key_of other version))
+        ∙ either (tree.contains key_cmp old (key_of other version)) (name_eq other origin) (strings_eq version.others own.others)
+
+-- no row is known before the first
+pub none_are_known : (config : Config) (known : KnownCopies) → map.IsEmpty known.alone → tree.IsEmpty known.keys → KnowsCopies config [] known
+none_are_known config known alone keys = record {
+  each = λ row. sym ((λ i. no_key row (row_version config row) i || is_copy_alone config row (no_origin row.origin i)));
+  none = λ origin is. refl;
+} where
+  no_key : (row : RowFiles) (version : Option Version) → has_key known.keys row.origin version ≡ false
+  no_key row None = refl
+  no_key row (Some version) = ap (λ (all : List CopyKey). list_any (λ (key : CopyKey). is_eq (key_cmp (key_of row.origin version) key)) all) keys
+
+  no_origin : (origin : Labels) → map.get name_cmp known.alone origin ≡ None
+  no_origin origin = ap (λ (entries : List (Labels × Option Labels)). lookup (λ (key : Labels). is_eq (name_cmp origin key)) entries) alone
 
 module _ (config : Config) (before : List RowFiles) (row : RowFiles) where
   -- the rows with one more have an equal copy, if they had or it is one
@@ -143,36 +188,173 @@ module _ (config : Config) (before : List RowFiles) (row : RowFiles) where
       list_any-append (is_equal_copy config other) before (row ∷ [])
       ∙ ap (λ (b : Bool). list_any (is_equal_copy config other) before || b) (or-false (is_equal_copy config other row))
 
-  -- a row whose server holds no zone is no copy
-  pub same_equal : (known : tree.BTreeSet CopyKey) → KnowsCopies config before known → row_version config row ≡ None → KnowsCopies config (before ++ row ∷ []) known
-  same_equal known knows none other =
-      any_more other
-      ∙ ap (λ (own : Option Version). list_any (is_equal_copy config other) before || (name_eq other.origin row.origin && equal_versions (row_version config other) own)) none
-      ∙ by (row_version config other) (name_eq other.origin row.origin) ∙ knows other
-    where
-      by : (version : Option Version) (b : Bool) → (list_any (is_equal_copy config other) before || (b && equal_versions version None)) ≡ list_any (is_equal_copy config other) before
-      by None b = ap (λ (c : Bool). list_any (is_equal_copy config other) before || c) (and-false b) ∙ or-false (list_any (is_equal_copy config other) before)
-      by (Some version) b = ap (λ (c : Bool). list_any (is_equal_copy config other) before || c) (and-false b) ∙ or-false (list_any (is_equal_copy config other) before)
+  -- no copy has an origin that none of the rows has
+  no_copy : (rows : List RowFiles) → list_any (has_origin row.origin) rows ≡ false → list_any (is_equal_copy config row) rows ≡ false
+  no_copy [] none = refl
+  no_copy (first ∷ rows) none =
+      let parts = or_parts (name_eq row.origin first.origin) (list_any (has_origin row.origin) rows) none in
+      (λ i. (parts.0 i && equal_versions (row_version config row) (row_version config first)) || no_copy rows parts.1 i)
 
-  -- a set with the key of the row knows of the rows with it
-  pub more_equal : (old new : tree.BTreeSet CopyKey) → KnowsCopies config before old → (own : Version) → row_version config row ≡ Some own
-      → tree.Updates key_cmp old new (key_of row own) true → KnowsCopies config (before ++ row ∷ []) new
-  more_equal old new knows own is updates other =
-      any_more other
-      ∙ (λ i. knows other i || (name_eq other.origin row.origin && equal_versions (row_version config other) (is i)))
-      ∙ by (row_version config other)
-    where
-      either : (was b c : Bool) → (was || (b && c)) ≡ cond (b && c) true was
-      either true true true = refl
-      either true true false = refl
-      either true false c = refl
-      either false true true = refl
-      either false true false = refl
-      either false false c = refl
+  module _ (known : KnownCopies) (knows : KnowsCopies config before known) where
+    -- the first row with its origin is no copy
+    pub first_is_new : map.get name_cmp known.alone row.origin ≡ None → true ≡ is_first_copy config before row
+    first_is_new is = sym (ap not (no_copy before (knows.none row.origin is)))
 
-      by : (version : Option Version) → (has_key old other version || (name_eq other.origin row.origin && equal_versions version (Some own))) ≡ has_key new other version
-      by None = ap (λ (b : Bool). false || b) (and-false (name_eq other.origin row.origin))
-      by (Some version) =
-          either (tree.contains key_cmp old (key_of other version)) (name_eq other.origin row.origin) (strings_eq version.others own.others)
-          ∙ ap (λ (b : Bool). cond b true (tree.contains key_cmp old (key_of other version))) (sym (keys_equal (key_of row own) (key_of other version)))
-          ∙ sym (updates.0 (key_of other version))
+    -- whether a row is a copy where rows with its origin are known, by the keys with that of the only one
+    pub copy_by_keys : (alone : Option Labels) (mid : tree.BTreeSet CopyKey) → map.get name_cmp known.alone row.origin ≡ Some alone
+        → HasMoreKeys known.keys mid row.origin (version_alone config alone row.origin)
+        → not (has_key mid row.origin (row_version config row)) ≡ is_first_copy config before row
+    copy_by_keys alone mid is more =
+        ap not (
+        more row.origin (row_version config row)
+        ∙ ap (λ (b : Bool). has_key known.keys row.origin (row_version config row) || (b && equal_versions (row_version config row) (version_alone config alone row.origin)))
+        ((name_eq_decides row.origin row.origin).1 refl)
+        ∙ ap (λ (found : Option (Option Labels)). has_key known.keys row.origin (row_version config row) || is_copy_alone config row found) (sym is)
+        ∙ sym (knows.each row)
+        )
+
+    -- the version of a row's zone is there, and is that of the only row with its origin
+    like : (own alone : Option Zone) → AreLike alone own → equal_versions (option_map version_of own) (option_map version_of alone) ≡ true
+    like (Some own) (Some alone) is =
+        ap (λ (version : Version). strings_eq (version_of own).others version.others) is ∙ (lists_equiv nat_list_eq_equiv).refl (version_of own).others
+    like None (Some alone) is = absurd is
+    like (Some own) None is = absurd is
+    like None None is = absurd is
+
+    -- a row whose zone is like that of the only row with its origin is a copy
+    pub like_is_copy : LikeAlone config (map.get name_cmp known.alone row.origin) row → false ≡ is_first_copy config before row
+    like_is_copy (server, is, same) =
+        sym (ap not (
+        knows.each row
+        ∙ ap (λ (found : Option (Option Labels)). has_key known.keys row.origin (row_version config row) || is_copy_alone config row found) is
+        ∙ ap (λ (b : Bool). has_key known.keys row.origin (row_version config row) || b) (like (held_zone config row.server row.origin) (held_zone config server row.origin) same)
+        ∙ or-true (has_key known.keys row.origin (row_version config row))
+        ))
+
+    -- and nothing else is known with it
+    pub known_with_like : LikeAlone config (map.get name_cmp known.alone row.origin) row → KnowsCopies config (before ++ row ∷ []) known
+    known_with_like (server, is, same) = record {
+      each = λ other. any_more other ∙ ap (λ (b : Bool). b || is_equal_copy config other row) (knows.each other) ∙ by other (name_eq other.origin row.origin) refl;
+      none = λ origin nothing.
+          list_any-append (has_origin origin) before (row ∷ [])
+          ∙ (λ i. knows.none origin nothing i || (apart origin (name_eq origin row.origin) refl nothing i || false));
+    } where
+      one : (own alone : Option Zone) → AreLike alone own → option_map version_of own ≡ option_map version_of alone
+      one (Some own) (Some alone) is = ap (λ (version : Version). Some version) (sym is)
+      one None (Some alone) is = absurd is
+      one (Some own) None is = absurd is
+      one None None is = absurd is
+
+      apart : (origin : Labels) (b : Bool) → name_eq origin row.origin ≡ b → map.get name_cmp known.alone origin ≡ None → name_eq origin row.origin ≡ false
+      apart origin true e nothing =
+          let some : None ≡ Some (Some server) = sym nothing ∙ ap (map.get name_cmp known.alone) ((name_eq_decides origin row.origin).0 e) ∙ is in
+          cc
+      apart origin false e nothing = e
+
+      twice : (a b : Bool) → ((a || b) || b) ≡ (a || b)
+      twice true b = refl
+      twice false true = refl
+      twice false false = refl
+
+      by : (other : RowFiles) (b : Bool) → name_eq other.origin row.origin ≡ b
+          → ((has_key known.keys other.origin (row_version config other) || is_copy_alone config other (map.get name_cmp known.alone other.origin)) || is_equal_copy config other row)
+          ≡ (has_key known.keys other.origin (row_version config other) || is_copy_alone config other (map.get name_cmp known.alone other.origin))
+      by other true e =
+          let at : other.origin ≡ row.origin = (name_eq_decides other.origin row.origin).0 e in
+          let own : Option Version = row_version config other in
+          let has : Bool = has_key known.keys other.origin own in
+          let found : map.get name_cmp known.alone other.origin ≡ Some (Some server) = ap (map.get name_cmp known.alone) at ∙ is in
+          (λ i. (has || is_copy_alone config other (found i)) || (e i && equal_versions own (row_version config row)))
+          ∙ ap (λ (version : Option Version). (has || equal_versions own (version_at config server other.origin)) || equal_versions own version)
+          (one (held_zone config row.server row.origin) (held_zone config server row.origin) same ∙ ap (version_at config server) (sym at))
+          ∙ twice has (equal_versions own (version_at config server other.origin))
+          ∙ (λ i. has || is_copy_alone config other (sym found i))
+      by other false e =
+          let was : Bool = has_key known.keys other.origin (row_version config other) || is_copy_alone config other (map.get name_cmp known.alone other.origin) in
+          (λ i. was || (e i && equal_versions (row_version config other) (row_version config row))) ∙ or-false was
+
+    module _ (new : KnownCopies)
+        (updates : map.Updates name_cmp known.alone new.alone row.origin (Some (alone_after row.server (map.get name_cmp known.alone row.origin)))) where
+      -- what is known of an origin then
+      found : (origin : Labels) (b : Bool) → name_eq row.origin origin ≡ b
+          → map.get name_cmp new.alone origin ≡ cond b (Some (alone_after row.server (map.get name_cmp known.alone row.origin))) (map.get name_cmp known.alone origin)
+      found origin b e =
+          updates.0 origin
+          ∙ ap (λ (c : Bool). cond c (Some (alone_after row.server (map.get name_cmp known.alone row.origin))) (map.get name_cmp known.alone origin))
+          (sym (lists_ties label_cmp texts_ties row.origin origin) ∙ e)
+
+      -- an origin of which nothing is known then none of the rows has, nor the one more
+      none_then : (origin : Labels) → map.get name_cmp new.alone origin ≡ None → list_any (has_origin origin) (before ++ row ∷ []) ≡ false
+      none_then origin is = by (name_eq row.origin origin) refl where
+        by : (b : Bool) → name_eq row.origin origin ≡ b → list_any (has_origin origin) (before ++ row ∷ []) ≡ false
+        by true e =
+            let some : Some (alone_after row.server (map.get name_cmp known.alone row.origin)) ≡ None = sym (found origin true e) ∙ is in
+            cc
+        by false e =
+            list_any-append (has_origin origin) before (row ∷ [])
+            ∙ (λ i. knows.none origin (sym (found origin false e) ∙ is) i || (((lists_equiv nat_list_eq_equiv).symm origin row.origin ∙ e) i || false))
+
+      -- the rows with one more are known, which is the first with its origin
+      pub known_with_first : map.get name_cmp known.alone row.origin ≡ None → new.keys ≡ known.keys → KnowsCopies config (before ++ row ∷ []) new
+      known_with_first is same = record {
+        each = λ other. any_more other ∙ ap (λ (b : Bool). b || is_equal_copy config other row) (knows.each other) ∙ by other (name_eq row.origin other.origin) refl;
+        none = none_then;
+      } where
+        by : (other : RowFiles) (b : Bool) → name_eq row.origin other.origin ≡ b
+            → ((has_key known.keys other.origin (row_version config other) || is_copy_alone config other (map.get name_cmp known.alone other.origin)) || is_equal_copy config other row)
+            ≡ (has_key new.keys other.origin (row_version config other) || is_copy_alone config other (map.get name_cmp new.alone other.origin))
+        by other true e =
+            let at : row.origin ≡ other.origin = (name_eq_decides row.origin other.origin).0 e in
+            let has : Bool = has_key known.keys other.origin (row_version config other) in
+            (λ i. (has || is_copy_alone config other ((ap (map.get name_cmp known.alone) (sym at) ∙ is) i))
+            || (((lists_equiv nat_list_eq_equiv).symm other.origin row.origin ∙ e) i && equal_versions (row_version config other) (row_version config row)))
+            ∙ ap (λ (b : Bool). b || equal_versions (row_version config other) (row_version config row)) (or-false has)
+            ∙ ap (λ (origin : Labels). has || equal_versions (row_version config other) (version_at config row.server origin)) at
+            ∙ (λ i. has_key (sym same i) other.origin (row_version config other)
+            || is_copy_alone config other (sym (found other.origin true e ∙ ap (λ (f : Option (Option Labels)). Some (alone_after row.server f)) is) i))
+        by other false e =
+            let was : Bool = has_key known.keys other.origin (row_version config other) || is_copy_alone config other (map.get name_cmp known.alone other.origin) in
+            (λ i. was || (((lists_equiv nat_list_eq_equiv).symm other.origin row.origin ∙ e) i && equal_versions (row_version config other) (row_version config row)))
+            ∙ or-false was
+            ∙ (λ i. has_key (sym same i) other.origin (row_version config other) || is_copy_alone config other (sym (found other.origin false e) i))
+
+      -- the rows with one more are known, of which others have its origin
+      pub known_with_copy : (alone : Option Labels) (mid : tree.BTreeSet CopyKey) → map.get name_cmp known.alone row.origin ≡ Some alone
+          → HasMoreKeys known.keys mid row.origin (version_alone config alone row.origin)
+          → HasMoreKeys mid new.keys row.origin (row_version config row) → KnowsCopies config (before ++ row ∷ []) new
+      known_with_copy alone mid is more last = record {
+        each = λ other. any_more other ∙ ap (λ (b : Bool). b || is_equal_copy config other row) (knows.each other) ∙ by other (name_eq row.origin other.origin) refl;
+        none = none_then;
+      } where
+        by : (other : RowFiles) (b : Bool) → name_eq row.origin other.origin ≡ b
+            → ((has_key known.keys other.origin (row_version config other) || is_copy_alone config other (map.get name_cmp known.alone other.origin)) || is_equal_copy config other row)
+            ≡ (has_key new.keys other.origin (row_version config other) || is_copy_alone config other (map.get name_cmp new.alone other.origin))
+        by other true e =
+            let at : row.origin ≡ other.origin = (name_eq_decides row.origin other.origin).0 e in
+            let own : Option Version = row_version config other in
+            let has : Bool = has_key known.keys other.origin own in
+            let same : name_eq other.origin row.origin ≡ true = (lists_equiv nat_list_eq_equiv).symm other.origin row.origin ∙ e in
+            (λ i. (has || is_copy_alone config other ((ap (map.get name_cmp known.alone) (sym at) ∙ is) i)) || (same i && equal_versions own (row_version config row)))
+            ∙ ap (λ (origin : Labels). (has || equal_versions own (version_alone config alone origin)) || equal_versions own (row_version config row)) (sym at)
+            ∙ (λ i. (has || (sym same i && equal_versions own (version_alone config alone row.origin))) || (sym same i && equal_versions own (row_version config row)))
+            ∙ (λ i. sym (more other.origin own) i || (name_eq other.origin row.origin && equal_versions own (row_version config row)))
+            ∙ sym (last other.origin own)
+            ∙ sym (or-false (has_key new.keys other.origin own))
+            ∙ (λ i. has_key new.keys other.origin own || sym (equal_none own) i)
+            ∙ (λ i. has_key new.keys other.origin own
+            || is_copy_alone config other (sym (found other.origin true e ∙ ap (λ (f : Option (Option Labels)). Some (alone_after row.server f)) is) i))
+        by other false e =
+            let own : Option Version = row_version config other in
+            let has : Bool = has_key known.keys other.origin own in
+            let alike : Bool = is_copy_alone config other (map.get name_cmp known.alone other.origin) in
+            let differs : name_eq other.origin row.origin ≡ false = (lists_equiv nat_list_eq_equiv).symm other.origin row.origin ∙ e in
+            (λ i. (has || alike) || (differs i && equal_versions own (row_version config row)))
+            ∙ or-false (has || alike)
+            ∙ (λ i. sym (
+            last other.origin own
+            ∙ (λ j. more other.origin own j || (differs j && equal_versions own (row_version config row)))
+            ∙ (λ j. (has || (differs j && equal_versions own (version_alone config alone row.origin))) || false)
+            ∙ or-false (has || false)
+            ∙ or-false has
+            ) i || alike)
+            ∙ (λ i. has_key new.keys other.origin own || is_copy_alone config other (sym (found other.origin false e) i))

@@ -1,9 +1,11 @@
 pub mod AnsweredRows
 mod RowsBefore
 mod FirstCopies
-mod SideLines
+mod GlueAlone
+mod HeldFound
 mod ListedNames
 mod NamingLists
+mod PlainFiles
 mod OneOutcome
 pub mod ColumnTexts
 pub mod Endings

@@ -1,39 +1,37 @@
 -- Lists that stand at names, with one item more; tests of names behind references.
-use Rattle.std.proofs.Common.{◌≡◌, Bool, true, false, ◌||◌, List, [], ◌∷◌, ◌++◌, map, filter, cond, Option, is_eq, append-nil, Bor, refl, sym, ap, ◌∙◌}
+use Rattle.std.proofs.Common.{◌≡◌, Bool, true, false, ◌||◌, List, [], ◌∷◌, ◌++◌, map, filter, cond, Option, append-nil, Bor, refl, sym, ap, ◌∙◌}
 use Rattle.std.specs.Prelude.{unwrap_or}
 use Rattle.std.proofs.lemmas.List.{map-append}
 use Rattle.std.proofs.lemmas.List.Elements.{filter-append}
-use Rattle.std.specs.BTreeMap as tree
-use Rattle.std.specs.Cmp.Lexicographic.{lists_ties, texts_ties}
+use Rattle.std.specs.HashMap as tables
 use Rattle.std.specs.List.{list_any}
 use Rattle.std.specs.Map.{lookup}
-use Rattle.dns_data.specs.Label.{label_cmp}
-use Rattle.dns_data.specs.Name.{Labels, name_cmp, name_eq}
+use Rattle.dns_data.specs.Name.{Labels, name_eq}
 use Rattle.dns_data.proofs.Names.{name_eq_decides}
 use Rattle.zone_map.specs.NameLists.{Lists, listed_at}
 
 -- a map without entries lists nothing
-pub none_listed : {A : Type 0} (lists : tree.BTreeMap Labels (List A)) → tree.IsEmpty lists → (name : Labels) → listed_at lists name ≡ []
-none_listed {A} lists empty name =
-    ap (λ (entries : List (Labels × List A)). unwrap_or (lookup (λ (key : Labels). is_eq (name_cmp name key)) entries) []) empty
+pub none_listed : {A S : Type 0} (lists : tables.HashMap Labels (List A) S) → tables.IsEmpty lists → (name : Labels) → listed_at lists name ≡ []
+none_listed {A} {S} lists empty name =
+    ap (λ (entries : List (Labels × List A)). unwrap_or (lookup (name_eq name) entries) []) empty
 
 -- what is listed at each name after something was put in for a name, or nothing
-pub listed_by : {A : Type 0} (server name : Labels) (listed : Option (List A)) (old new : tree.BTreeMap Labels (List A))
-    → tree.get name_cmp new name ≡ cond (is_eq (name_cmp server name)) listed (tree.get name_cmp old name)
+pub listed_by : {A S : Type 0} (server name : Labels) (listed : Option (List A)) (old new : tables.HashMap Labels (List A) S)
+    → tables.get name_eq new name ≡ cond (name_eq server name) listed (tables.get name_eq old name)
     → listed_at new name ≡ cond (name_eq server name) (unwrap_or listed []) (listed_at old name)
-listed_by {A} server name listed old new is =
-    ap (λ (found : Option (List A)). unwrap_or found []) is ∙ by (is_eq (name_cmp server name)) (lists_ties label_cmp texts_ties server name)
+listed_by {A} {S} server name listed old new is =
+    ap (λ (found : Option (List A)). unwrap_or found []) is ∙ by (name_eq server name)
   where
-    by : (b : Bool) → name_eq server name ≡ b → unwrap_or (cond b listed (tree.get name_cmp old name)) [] ≡ cond (name_eq server name) (unwrap_or listed []) (listed_at old name)
-    by true e = sym (ap (λ (c : Bool). cond c (unwrap_or listed []) (listed_at old name)) e)
-    by false e = sym (ap (λ (c : Bool). cond c (unwrap_or listed []) (listed_at old name)) e)
+    by : (b : Bool) → unwrap_or (cond b listed (tables.get name_eq old name)) [] ≡ cond b (unwrap_or listed []) (listed_at old name)
+    by true = refl
+    by false = refl
 
 -- what was listed at a name, put in again with one item behind it
-pub listed_behind : {A : Type 0} (server : Labels) (item : A) (old mid new : tree.BTreeMap Labels (List A))
+pub listed_behind : {A S : Type 0} (server : Labels) (item : A) (old mid new : tables.HashMap Labels (List A) S)
     → ((name : Labels) → name_eq server name ≡ false → listed_at mid name ≡ listed_at old name)
     → ((name : Labels) → listed_at new name ≡ cond (name_eq server name) (listed_at old server ++ item ∷ []) (listed_at mid name))
     → (name : Labels) → listed_at new name ≡ listed_at old name ++ cond (name_eq server name) (item ∷ []) []
-listed_behind {A} server item old mid new others is name = is name ∙ by (name_eq server name) refl where
+listed_behind {A} {S} server item old mid new others is name = is name ∙ by (name_eq server name) refl where
   by : (b : Bool) → name_eq server name ≡ b
       → cond (name_eq server name) (listed_at old server ++ item ∷ []) (listed_at mid name) ≡ listed_at old name ++ cond (name_eq server name) (item ∷ []) []
   by true e =
@@ -55,9 +53,9 @@ pub borrowed_one : {A : Type 0} (b : Bool) (item : Bor A) → map (λ (one : Bor
 borrowed_one {A} true item = refl
 borrowed_one {A} false item = refl
 
-module _ {A : Type 0} (stands : Labels → A → Bool) (items : List A) (old : tree.BTreeMap Labels (List (Bor A))) (lists : Lists stands items old) (item : Bor A) where
+module _ {A S : Type 0} (stands : Labels → A → Bool) (items : List A) (old : tables.HashMap Labels (List (Bor A)) S) (lists : Lists stands items old) (item : Bor A) where
   -- the items are listed with one more, which is listed at each name at which it stands
-  pub lists_more : (new : tree.BTreeMap Labels (List (Bor A)))
+  pub lists_more : (new : tables.HashMap Labels (List (Bor A)) S)
       → ((name : Labels) → listed_at new name ≡ listed_at old name ++ cond (stands name item.now) (item ∷ []) [])
       → Lists stands (items ++ item.now ∷ []) new
   lists_more new is name =

@@ -2,7 +2,7 @@
 use Rattle.std.specs.Prelude.{ℕ, ◌+◌, Bool, true, false, ◌&&◌, not, List, [], ◌∷◌, length, codes, decimal, Option, Some, option_map, if◌then◌else◌}
 use Rattle.std.specs.List.{find, list_any}
 use Rattle.std.specs.Option.{option_map_or}
-use Rattle.dns_data.specs.Name.{name_eq}
+use Rattle.dns_data.specs.Name.{Labels, name_eq}
 use Rattle.dns_data.specs.Spelling.{name_text}
 use Rattle.net_model.specs.declared.config.Config.{Config}
 use Rattle.net_model.specs.Nearest.{held_zone}
@@ -30,9 +30,13 @@ copy_counts Same = false
 copy_counts Renumbered = false
 copy_counts word = true
 
+-- what is compared of the zone with this origin at the server, if it holds one
+abbrev pub version_at : Config → Labels → Labels → Option Version
+version_at config server origin = option_map version_of (held_zone config server origin)
+
 -- what is compared of a row's zone, if the row's server holds one; each row that was read does
 abbrev pub row_version : Config → RowFiles → Option Version
-row_version config row = option_map version_of (held_zone config row.server row.origin)
+row_version config row = version_at config row.server row.origin
 
 -- the rows' zones have one origin
 abbrev pub has_origin_of : RowFiles → RowFiles → Bool

@@ -13,9 +13,7 @@ pub mod FirstCopies
 pub mod NameLists
 pub mod RowZones
 pub mod Delegations
-pub mod SideFaults
 pub mod Servers
-pub mod Namings
 pub mod Chain
 pub mod Records
 pub mod Rewrites
@@ -29,4 +27,5 @@ pub mod Words
 pub mod Outcome
 pub mod Runs
 pub mod EndsWords
+pub mod Held
 pub mod JobEnds

@@ -40,9 +40,13 @@ row_namings config row = option_map_or (λ zone. flat_map (namings_at row zone) 
 abbrev pub namings_of : Loaded → List Naming
 namings_of all = flat_map (row_namings all.config) all.rows
 
+-- it names the server
+abbrev pub names_server : Labels → Naming → Bool
+names_server name naming = name_eq naming.server name
+
 -- what names the server
 abbrev pub namings_for : List Naming → Labels → List Naming
-namings_for namings name = filter (λ naming. name_eq naming.server name) namings
+namings_for namings name = filter (names_server name) namings
 
 -- the owner of the record is an origin, or is a zone cut
 abbrev pub is_at : Bool → Naming → Bool
@@ -88,12 +92,17 @@ server_counts Dead = true
 server_counts NoRow = true
 server_counts word = false
 
+-- the columns of a line: a word, a name, how many different origins and how many different cuts name it, and the place of the
+-- first record that does
+abbrev pub server_columns : List ℕ → Labels → List Naming → List (List ℕ)
+server_columns word name namings =
+    word ∷ name_text name ∷ decimal (owner_count true namings) ∷ decimal (owner_count false namings) ∷ first_place namings
+
 -- the line of a name, by what names it
 abbrev pub server_line : NameEnds → Bool → Labels → List Naming → Line
 server_line ends configured name namings =
     let word = server_word ends configured (length namings == 0) in
-    line_of (server_counts word)
-    (server_text word ∷ name_text name ∷ decimal (owner_count true namings) ∷ decimal (owner_count false namings) ∷ first_place namings)
+    line_of (server_counts word) (server_columns (server_text word) name namings)
 
 -- the names that are told: those that records name, and those of the configured servers, in the order of names
 abbrev pub told_names : Loaded → List Labels

@@ -12,6 +12,7 @@ ghost use Rattle.zone_map.specs.Lines.{if_so, with_lines};
 use crate::chain_lines::{put_pair, put_record};
 use crate::known_rows::KnownRows;
 use crate::lines::{Line, with_lines};
+use crate::name_key::NameKey;
 use crate::placed::zone_keys;
 use crate::row_zone::{is_named, ns_names};
 use crate::signed::{CutSigners, SignedZone};
@@ -48,7 +49,7 @@ fn chain_among(alloc: Global, hosts: &Hosts<'_>, rows: &[RowFiles]) -> Result<Li
 {
     let all = KnownRows::new(alloc, hosts, rows)?;
     let each = borrowed(alloc, rows)?;
-    let firsts = first_copies(alloc, hosts.config(), each.items())?;
+    let firsts = first_copies(alloc, hosts, each.items())?;
     lines_of(alloc, &all, firsts.items())
 }
 
@@ -188,8 +189,9 @@ fn children_of<'r>(
     ensures { IfOk result (λ rows. map (λ row. row.now) rows ≡ children all.now tree.now.zone cut.now) }
 {
     let names = ns_names(tree, cut);
+    let origin = NameKey::of(alloc, cut)?;
     let mut rows = List::new(alloc);
-    for row in all.at(cut) {
+    for row in all.at(&origin) {
         if is_delegated(all.hosts(), names, *row) {
             rows.push(*row)?;
         }
@@ -226,7 +228,7 @@ fn put_first_children(
     ensures { OnOk result (lines.new ≡ lines.old ++ flat_map (child_lines all.now.config (signed_cut at.now.row at.now.zone cut.now)) (first_copies all.now.config (map (λ row. row.now) rows.now))) }
 {
     let hosts = all.hosts();
-    let firsts = first_copies(alloc, hosts.config(), rows)?;
+    let firsts = first_copies(alloc, hosts, rows)?;
     let signed = CutSigners::new(alloc, at, cut)?;
     put_children(alloc, lines, hosts, &signed, firsts.items())
 }

@@ -1,6 +1,7 @@
 //! Columns of lines.
 
-ghost use Rattle.std.specs.Prelude.{◌≡◌, ◌++◌, true, codes, decimal, OnOk};
+ghost use Rattle.std.specs.Prelude.{◌≡◌, ◌++◌, ◌&&◌, ◌==◌, not, true, codes, decimal, OnOk};
+ghost use Rattle.std.specs.List.{list_all};
 ghost use Rattle.dns_data.specs.Spelling.{name_text};
 ghost use Rattle.zone_map.specs.Columns.{as_written, file_octet_text, file_text, is_held, is_plain, next_written, tab, written_octet};
 
@@ -36,7 +37,28 @@ pub(crate) fn put_number(alloc: Global, text: &mut Octets, number: u64) -> Resul
 pub(crate) fn put_file(alloc: Global, text: &mut Octets, file: &str) -> Result<(), NoMemory>
     ensures { OnOk result (text.new ≡ text.old ++ file_text file.now) }
 {
-    for octet in file.as_bytes() {
+    let octets = file.as_bytes();
+    if stand_for_themselves(octets) {
+        text.extend_from_slice(alloc, octets)
+    } else {
+        put_file_octets(alloc, text, octets)
+    }
+}
+
+/// Whether each octet of a file's name is printable and neither a space nor a backslash, as mostly all are.
+fn stand_for_themselves(octets: &[u8]) -> bool
+    ensures { result ≡ list_all (λ octet. is_plain octet && not (octet == 92)) octets.now }
+{
+    octets
+        .iter()
+        .all(|octet| is_plain(*octet) && *octet != b'\\')
+}
+
+/// Puts the octets of a file's name at the end.
+fn put_file_octets(alloc: Global, text: &mut Octets, octets: &[u8]) -> Result<(), NoMemory>
+    ensures { OnOk result (text.new ≡ text.old ++ file_text octets.now) }
+{
+    for octet in octets {
         put_file_octet(alloc, text, *octet)?;
     }
     Ok(())

@@ -5,15 +5,16 @@ ghost use Rattle.std.specs.BTreeMap as map;
 ghost use Rattle.dns_data.specs.Name.{name_cmp};
 ghost use Rattle.dns_data.specs.Spelling.{name_text};
 ghost use Rattle.config_load.specs.declared.loaded.RowFiles.{RowFiles as RowValue};
-ghost use Rattle.zone_map.specs.Copies.{copies_of, copy_counts, copy_line, copy_lines, copy_text, line_beside, row_version};
+ghost use Rattle.zone_map.specs.Copies.{copies_of, copy_counts, copy_line, copy_lines, copy_text, line_beside, row_version, version_at};
 ghost use Rattle.run_endings.specs.Endings.{no_memory};
 ghost use Rattle.zone_map.specs.FirstCopies.{KnowsFirsts, known_lines};
 ghost use Rattle.zone_map.specs.Lines.{with_lines};
 
+use crate::held::HeldZones;
 use crate::lines::{Line, put_line, put_name_column, put_number_column, put_octets, with_lines};
 use config_load::{Loaded, RowFiles};
 use dns_data::{List, Name, NoMemory, Octets};
-use net_model::{Config, held_zone};
+use net_model::Config;
 use run_endings::Ending;
 use std::alloc::Global;
 use std::collections::BTreeMap;
@@ -40,10 +41,22 @@ fn copies_of(alloc: Global, all: &Loaded) -> Result<List<Line>, NoMemory>
 fn copies_among(alloc: Global, config: &Config, rows: &[RowFiles]) -> Result<List<Line>, NoMemory>
     ensures { IfOk result (λ lines. lines ≡ copies_of (record { config = config.now; rows = rows.now })) }
 {
+    let zones = HeldZones::of(alloc, config)?;
+    copies_with(alloc, &zones, rows)
+}
+
+/// The same, where the zones are found by their servers and origins.
+fn copies_with(
+    alloc: Global,
+    zones: &HeldZones<'_>,
+    rows: &[RowFiles],
+) -> Result<List<Line>, NoMemory>
+    ensures { IfOk result (λ lines. lines ≡ copies_of (record { config = zones.now; rows = rows.now })) }
+{
     let mut firsts = BTreeMap::new(alloc);
     let mut lines = List::new(alloc);
     for (i, row) in rows.iter().enumerate() {
-        put_copy(alloc, &mut lines, &mut firsts, config, i + 1, row)?;
+        put_copy(alloc, &mut lines, &mut firsts, zones, i + 1, row)?;
     }
     Ok(lines)
 }
@@ -54,19 +67,19 @@ fn put_copy(
     alloc: Global,
     lines: &mut List<Line>,
     firsts: &mut BTreeMap<Name, Option<Version>>,
-    config: &Config,
+    zones: &HeldZones<'_>,
     number: usize,
     row: &RowFiles,
 ) -> Result<(), NoMemory>
-    ensures lines { (before : Items RowValue) → KnowsFirsts config.now before firsts.old → number ≡ length before + 1 →
-        OnOk result (lines.new ≡ lines.old ++ copy_lines config.now before row.now) }
-    ensures firsts { (before : Items RowValue) → KnowsFirsts config.now before firsts.old →
-        OnOk result (KnowsFirsts config.now (before ++ row.now ∷ []) firsts.new) }
+    ensures lines { (before : Items RowValue) → KnowsFirsts zones.now before firsts.old → number ≡ length before + 1 →
+        OnOk result (lines.new ≡ lines.old ++ copy_lines zones.now before row.now) }
+    ensures firsts { (before : Items RowValue) → KnowsFirsts zones.now before firsts.old →
+        OnOk result (KnowsFirsts zones.now (before ++ row.now ∷ []) firsts.new) }
 {
     if firsts.contains_key(&row.origin) {
-        put_known(alloc, lines, firsts, config, number, row)
+        put_known(alloc, lines, firsts, zones, number, row)
     } else {
-        keep_first(alloc, firsts, config, row)
+        keep_first(alloc, firsts, zones, row)
     }
 }
 
@@ -75,13 +88,13 @@ fn put_known(
     alloc: Global,
     lines: &mut List<Line>,
     firsts: &BTreeMap<Name, Option<Version>>,
-    config: &Config,
+    zones: &HeldZones<'_>,
     number: usize,
     row: &RowFiles,
 ) -> Result<(), NoMemory>
-    ensures { OnOk result (lines.new ≡ lines.old ++ known_lines number row.now (row_version config.now row.now) (map.get name_cmp firsts.now row.now.origin)) }
+    ensures { OnOk result (lines.new ≡ lines.old ++ known_lines number row.now (row_version zones.now row.now) (map.get name_cmp firsts.now row.now.origin)) }
 {
-    let own = row_version(alloc, config, row)?;
+    let own = version_at(alloc, zones, &row.server, &row.origin)?;
     match firsts.get(&row.origin) {
         Some(first) => put_beside(alloc, lines, number, row, first, &own),
         None => Ok(()),
@@ -92,25 +105,26 @@ fn put_known(
 fn keep_first(
     alloc: Global,
     firsts: &mut BTreeMap<Name, Option<Version>>,
-    config: &Config,
+    zones: &HeldZones<'_>,
     row: &RowFiles,
 ) -> Result<(), NoMemory>
-    ensures { OnOk result (map.Updates name_cmp firsts.old firsts.new row.now.origin (Some (row_version config.now row.now))) }
+    ensures { OnOk result (map.Updates name_cmp firsts.old firsts.new row.now.origin (Some (row_version zones.now row.now))) }
 {
-    let own = row_version(alloc, config, row)?;
+    let own = version_at(alloc, zones, &row.server, &row.origin)?;
     firsts.insert(row.origin.copy(alloc)?, own)?;
     Ok(())
 }
 
-/// What is compared of a row's zone.
-pub(crate) fn row_version(
+/// What is compared of the zone with this origin at the server, if it holds one.
+fn version_at(
     alloc: Global,
-    config: &Config,
-    row: &RowFiles,
+    zones: &HeldZones<'_>,
+    server: &Name,
+    origin: &Name,
 ) -> Result<Option<Version>, NoMemory>
-    ensures { IfOk result (λ version. version ≡ row_version config.now row.now) }
+    ensures { IfOk result (λ version. version ≡ version_at zones.now server.now origin.now) }
 {
-    match held_zone(config, &row.server, &row.origin) {
+    match zones.get(alloc, server, origin)? {
         Some(zone) => Ok(Some(version_of(alloc, zone)?)),
         None => Ok(None),
     }

@@ -13,12 +13,11 @@ ghost use Rattle.zone_map.specs.FirstCopies.{KnowsCopies};
 use crate::lines::Line;
 use crate::ns_lines::{put_at_cut, put_at_origin, put_leftover};
 use crate::row_zone::RowZone;
-use crate::versions::{CopyKey, is_first_copy};
+use crate::versions::{KnownCopies, is_first_copy};
 use config_load::RowFiles;
 use dns_data::{List, Name, NoMemory};
 use name_ends::Asker;
 use std::alloc::Global;
-use std::collections::BTreeSet;
 use zone_cuts::is_cut;
 use zone_tree::Tree;
 
@@ -30,7 +29,7 @@ pub(crate) fn delegations_of(
 ) -> Result<List<Line>, NoMemory>
     ensures { IfOk result (λ lines. lines ≡ delegations_of (record { config = asker.old.config; rows = rows.now }) (ends_in asker.old)) }
 {
-    let mut known = BTreeSet::new(alloc);
+    let mut known = KnownCopies::new(alloc);
     let mut lines = List::new(alloc);
     for row in rows {
         put_row(alloc, &mut lines, asker, &mut known, row)?;
@@ -43,7 +42,7 @@ fn put_row(
     alloc: Global,
     lines: &mut List<Line>,
     asker: &mut Asker<'_, '_>,
-    known: &mut BTreeSet<CopyKey>,
+    known: &mut KnownCopies,
     row: &RowFiles,
 ) -> Result<(), NoMemory>
     ensures lines { (before : Items RowValue) → KnowsCopies asker.old.config before known.old →
@@ -53,7 +52,7 @@ fn put_row(
     ensures kept { asker.new ≡ asker.old }
 {
     let hosts = asker.hosts();
-    let is_first = is_first_copy(alloc, known, hosts.config(), row)?;
+    let is_first = is_first_copy(alloc, known, hosts, row)?;
     match hosts.held_zone(&row.server, &row.origin) {
         Some(tree) => put_zone(alloc, lines, asker, is_first, row, tree),
         None => Ok(()),

@@ -5,11 +5,12 @@ ghost use Rattle.std.specs.List.{filter};
 ghost use Rattle.zone_map.specs.Chain.{is_row_at};
 ghost use Rattle.zone_map.specs.NameLists.{Lists};
 
+use crate::name_key::NameKey;
 use crate::name_lists::{list_at, listed_at};
 use config_load::RowFiles;
-use dns_data::{List, Name, NoMemory};
+use dns_data::{List, NoMemory};
 use std::alloc::Global;
-use std::collections::BTreeMap;
+use std::collections::HashMap;
 use std::marker::Model;
 use zone_lookup::Hosts;
 
@@ -18,7 +19,7 @@ use zone_lookup::Hosts;
 pub(crate) struct KnownRows<'h, 'a, 'r> {
     hosts: &'h Hosts<'a>,
     rows: &'r [RowFiles],
-    by_origin: BTreeMap<Name, List<&'r RowFiles>>,
+    by_origin: HashMap<NameKey, List<&'r RowFiles>>,
 }
 
 impl<'h, 'a, 'r> Model for KnownRows<'h, 'a, 'r> {
@@ -58,7 +59,7 @@ impl<'h, 'a, 'r> KnownRows<'h, 'a, 'r> {
     }
 
     /// The rows with this origin, in order.
-    pub(crate) fn at(&self, origin: &Name) -> &[&'r RowFiles]
+    pub(crate) fn at(&self, origin: &NameKey) -> &[&'r RowFiles]
         ensures { map (λ row. row.now) result.now ≡ filter (is_row_at origin.now) self.now.rows }
     {
         listed_at(&self.by_origin, origin)
@@ -69,10 +70,10 @@ impl<'h, 'a, 'r> KnownRows<'h, 'a, 'r> {
 fn rows_by_origin<'r>(
     alloc: Global,
     rows: &'r [RowFiles],
-) -> Result<BTreeMap<Name, List<&'r RowFiles>>, NoMemory>
+) -> Result<HashMap<NameKey, List<&'r RowFiles>>, NoMemory>
     ensures { IfOk result (Lists is_row_at rows.now) }
 {
-    let mut lists = BTreeMap::new(alloc);
+    let mut lists = HashMap::new(alloc);
     for row in rows {
         list_at(alloc, &mut lists, &row.origin, row)?;
     }

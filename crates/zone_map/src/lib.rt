@@ -10,9 +10,10 @@
 //!
 //! Costs: each file is read once. A row's zone is looked for among its server's zones. For rows the graph of each origin is
 //! made once, and so is the view of its ends; each row is then looked for among the servers that answer, in an ordered set.
-//! For targets, delegations and servers the trees of the zones and the set of servers that are followed are made once, and
-//! each name is asked once, by following its walks. For copies rows stand by their origins in an ordered map, and the records
-//! of two zones are compared in order. For aliases each owner and each target is asked for once at the top servers, and each
+//! For targets, delegations and servers the trees of the zones and the set of servers that are followed are made once; how the
+//! walks of a name end takes a lookup at each top server, or is asked once, by following them. For delegations and the chain of
+//! trust a zone is compared with its copies where it has some. For copies rows stand by their origins in an ordered map, and
+//! the records of two zones are compared in order. For aliases each owner and each target is asked for once at the top servers, and each
 //! target once at each server, by walks of one type; what zones tell with the other types is looked up only where these
 //! end otherwise. For the chain of trust the trees are made once, rows stand by their origins and the DS records of a zone by
 //! their owners. Beside each zone with a cut, the rows with the delegated zone are compared with each other, and their keys
@@ -27,10 +28,12 @@ mod chain_lines;
 mod columns;
 mod copies;
 mod delegations;
+mod held;
 mod known_rows;
 mod laws;
 mod limits;
 mod lines;
+mod name_key;
 mod name_lists;
 mod namings;
 mod ns_lines;

@@ -94,14 +94,14 @@ pub(crate) fn put_columns_between(
     match columns {
         [first, rest @ ..] => {
             text.extend_from_slice(alloc, first.items())?;
-            put_rest(alloc, text, between, rest)
+            put_behind(alloc, text, between, rest)
         }
         [] => Ok(()),
     }
 }
 
 /// Puts columns at the end, each behind these octets.
-fn put_rest(
+pub(crate) fn put_behind(
     alloc: Global,
     text: &mut Octets,
     between: &[u8],

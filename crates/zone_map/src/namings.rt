@@ -1,21 +1,15 @@
 //! The name servers that records name at origins and at zone cuts.
 
-ghost use Rattle.std.specs.Prelude.{◌≡◌, ◌++◌, ◌∷◌, [], List as Items, IfOk, OnOk};
+ghost use Rattle.std.specs.Prelude.{◌≡◌, ◌++◌, IfOk, OnOk};
 ghost use Rattle.std.specs.List.{flat_map};
 ghost use Rattle.std.specs.Option.{option_map};
-ghost use Rattle.net_model.specs.Order.{in_order};
 ghost use Rattle.zone_cuts.specs.Cuts.{ns_target, server_named_by};
-ghost use Rattle.zone_map.specs.Lines.{place_columns};
-ghost use Rattle.zone_map.specs.Namings.{KnowsNamings};
 ghost use Rattle.zone_map.specs.Servers.{naming_of, namings_at, row_namings};
-ghost use Rattle.zone_map.specs.declared.namings.Naming.{Naming as NamingValue};
 
 use crate::lines::put_place;
-use crate::name_lists::list_at;
 use config_load::RowFiles;
 use dns_data::{List, Name, NoMemory, Octets, Rdata, Rr};
 use std::alloc::Global;
-use std::collections::BTreeMap;
 use zone_cuts::has_servers;
 use zone_lookup::Hosts;
 use zone_tree::Tree;
@@ -30,42 +24,32 @@ pub(crate) struct Naming {
     pub place: List<Octets>,
 }
 
-/// What names each name server, in the order in which it was read; and the names of the name servers.
-#[derive(Drop)]
-pub(crate) struct Namings {
-    pub named: BTreeMap<Name, List<Naming>>,
-    pub names: List<Name>,
-}
-
-/// What the records of all rows' zones name.
+/// What the records of all rows' zones name, in the order in which they were read.
 pub(crate) fn namings_of(
     alloc: Global,
     hosts: &Hosts<'_>,
     rows: &[RowFiles],
-) -> Result<Namings, NoMemory>
-    ensures { IfOk result (KnowsNamings (flat_map (row_namings hosts.now) rows.now)) }
+) -> Result<List<Naming>, NoMemory>
+    ensures { IfOk result (λ namings. namings ≡ flat_map (row_namings hosts.now) rows.now) }
 {
-    let mut told = Namings {
-        named: BTreeMap::new(alloc),
-        names: List::new(alloc),
-    };
+    let mut namings = List::new(alloc);
     for row in rows {
-        put_row(alloc, &mut told, hosts, row)?;
+        put_row(alloc, &mut namings, hosts, row)?;
     }
-    Ok(told)
+    Ok(namings)
 }
 
 /// Puts what the records of a row's zone name behind the others.
 fn put_row(
     alloc: Global,
-    told: &mut Namings,
+    namings: &mut List<Naming>,
     hosts: &Hosts<'_>,
     row: &RowFiles,
 ) -> Result<(), NoMemory>
-    ensures { (before : Items NamingValue) → KnowsNamings before told.old → OnOk result (KnowsNamings (before ++ row_namings hosts.now row.now) told.new) }
+    ensures { OnOk result (namings.new ≡ namings.old ++ row_namings hosts.now row.now) }
 {
     match hosts.held_zone(&row.server, &row.origin) {
-        Some(tree) => put_records(alloc, told, row, tree, tree.zone().rrs.items()),
+        Some(tree) => put_records(alloc, namings, row, tree, tree.zone().rrs.items()),
         None => Ok(()),
     }
 }
@@ -73,15 +57,15 @@ fn put_row(
 /// Puts what records of a row's zone name behind the others.
 fn put_records(
     alloc: Global,
-    told: &mut Namings,
+    namings: &mut List<Naming>,
     row: &RowFiles,
     tree: &Tree<'_>,
     rrs: &[Rr],
 ) -> Result<(), NoMemory>
-    ensures { (before : Items NamingValue) → KnowsNamings before told.old → OnOk result (KnowsNamings (before ++ flat_map (namings_at row.now tree.now.zone) rrs.now) told.new) }
+    ensures { OnOk result (namings.new ≡ namings.old ++ flat_map (namings_at row.now tree.now.zone) rrs.now) }
 {
     for rr in rrs {
-        put_record(alloc, told, row, tree, rr)?;
+        put_record(alloc, namings, row, tree, rr)?;
     }
     Ok(())
 }
@@ -89,17 +73,17 @@ fn put_records(
 /// Puts what a record of a row's zone names behind the others.
 fn put_record(
     alloc: Global,
-    told: &mut Namings,
+    namings: &mut List<Naming>,
     row: &RowFiles,
     tree: &Tree<'_>,
     rr: &Rr,
 ) -> Result<(), NoMemory>
-    ensures { (before : Items NamingValue) → KnowsNamings before told.old → OnOk result (KnowsNamings (before ++ namings_at row.now tree.now.zone rr.now) told.new) }
+    ensures { OnOk result (namings.new ≡ namings.old ++ namings_at row.now tree.now.zone rr.now) }
 {
     match server_named_by(tree, rr) {
         Some(server) => {
             let naming = naming_of(alloc, row, tree, rr, server)?;
-            put_naming(alloc, told, naming)
+            namings.push(naming)
         }
         None => Ok(()),
     }
@@ -143,13 +127,4 @@ fn naming_of(
         at_origin: rr.owner == tree.zone().origin,
         place,
     })
-}
-
-/// Puts what a record names behind the others.
-fn put_naming(alloc: Global, told: &mut Namings, naming: Naming) -> Result<(), NoMemory>
-    ensures { (before : Items NamingValue) → KnowsNamings before told.old → OnOk result (KnowsNamings (before ++ naming ∷ []) told.new) }
-{
-    let server = naming.server.copy(alloc)?;
-    list_at(alloc, &mut told.named, &server, naming)?;
-    told.names.push(server)
 }

@@ -1,8 +1,7 @@
 //! The lines of name servers of zone cuts and origins.
 
-ghost use Rattle.std.specs.Prelude.{◌≡◌, ◌++◌, ◌∷◌, ◌&&◌, [], not, true, map, IfOk, OnOk};
-ghost use Rattle.std.specs.List.{flat_map, list_any};
-ghost use Rattle.dns_data.specs.Name.{is_among, is_prefix, name_eq};
+ghost use Rattle.std.specs.Prelude.{◌≡◌, ◌++◌, ◌∷◌, ◌&&◌, ◌||◌, [], false, true, not, map, IfOk, OnOk};
+ghost use Rattle.dns_data.specs.Name.{is_prefix};
 ghost use Rattle.dns_data.specs.Spelling.{name_text};
 ghost use Rattle.net_model.specs.Zone.{ns_names};
 ghost use Rattle.name_ends.specs.Asked.{ends_in};
@@ -10,17 +9,20 @@ ghost use Rattle.name_ends.specs.Ends.{is_dead};
 ghost use Rattle.zone_cuts.specs.Cuts.{is_glued};
 ghost use Rattle.zone_map.specs.Delegations.{at_cut, at_origin, dead_lines, is_asked, is_lame, is_leftover, leftover_line, ns_columns, ns_counts, ns_line, ns_text, place_at, side_lines};
 ghost use Rattle.zone_map.specs.Lines.{if_so};
-ghost use Rattle.zone_map.specs.SideFaults.{fault_line, no_deps};
-ghost use Rattle.zone_lookup.specs.ReferralFaults.{cut_faults};
+ghost use Rattle.zone_map.specs.RowZones.{no_deps};
+ghost use Rattle.net_model.specs.Nearest.{is_configured, is_top};
+ghost use Rattle.net_model.specs.Step.{may_follow};
+ghost use Rattle.zone_lookup.specs.CutFlags.{flags_of};
+ghost use Rattle.zone_lookup.specs.LentCut.{cut_of};
 
 use crate::lines::{Line, put_line, put_name_column, put_place, row_columns};
 use crate::row_zone::{RowZone, is_named};
 use dns_data::{List, Name, NoMemory, Octets};
 use name_ends::Asker;
-use net_model::{Cut, Deps, Fault, is_among};
+use net_model::{Cut, Deps, is_among};
 use std::alloc::Global;
 use zone_cuts::is_glued;
-use zone_lookup::{Hosts, LearntSets, put_cut_faults};
+use zone_lookup::{CutFlags, Hosts, LearntSets, LentCut};
 
 /// What is told of a name server.
 #[derive(Clone, Copy, Debug)]
@@ -182,6 +184,7 @@ fn is_lame(hosts: &Hosts<'_>, cut: &Name, ns: &Name) -> bool
 }
 
 /// Puts the lines of a name server of a zone cut for what both zones hold at the end.
+#[tactic(auto, unfolding(crate::specs::Delegations::side_lines))]
 fn put_sides(
     alloc: Global,
     lines: &mut List<Line>,
@@ -193,29 +196,51 @@ fn put_sides(
     requires { is_prefix at.now.zone.origin cut.now ≡ true }
     ensures { OnOk result (lines.new ≡ lines.old ++ side_lines hosts.now at.now.row at.now.zone cut.now ns.now) }
 {
-    put_if(
-        alloc,
-        lines,
-        is_lame(hosts, cut, ns),
-        at,
-        cut,
-        ns,
-        NsWord::Lame,
-    )?;
-    let faults = side_faults(alloc, hosts, at, cut, ns)?;
-    put_faults(alloc, lines, at, cut, ns, faults.items())
+    let lame = is_lame(hosts, cut, ns);
+    let flags = side_flags(alloc, hosts, at, cut, ns)?;
+    put_if(alloc, lines, lame, at, cut, ns, NsWord::Lame)?;
+    put_if(alloc, lines, flags.differs, at, cut, ns, NsWord::Differs)?;
+    put_if(alloc, lines, flags.no_glue, at, cut, ns, NsWord::NoGlue)?;
+    let differ = flags.glue_differs;
+    put_if(alloc, lines, differ, at, cut, ns, NsWord::GlueDiffers)
 }
 
-/// The faults of a referral to a name server that both zones show. The sets of learnt addresses are empty, so that none
-/// tells of an address that depends on itself.
-fn side_faults(
+/// What a referral to a name server shows. Of one that isn't configured only its glue is looked for.
+fn side_flags(
     alloc: Global,
     hosts: &Hosts<'_>,
     at: &RowZone<'_, '_>,
     cut: &Name,
     ns: &Name,
-) -> Result<List<Fault>, NoMemory>
-    ensures { IfOk result (λ faults. faults ≡ cut_faults hosts.now no_deps (place_at at.now.row at.now.zone cut.now ns.now)) }
+) -> Result<CutFlags, NoMemory>
+    requires { is_prefix at.now.zone.origin cut.now ≡ true }
+    ensures { IfOk result (λ flags. flags ≡ flags_of hosts.now no_deps (place_at at.now.row at.now.zone cut.now ns.now)) }
+{
+    let place = LentCut {
+        server: &at.row().server,
+        zone: &at.tree().zone().origin,
+        cut,
+        ns,
+    };
+    if is_known(hosts, ns) {
+        all_flags(alloc, hosts, place)
+    } else {
+        glue_flags(alloc, hosts, place)
+    }
+}
+
+/// Whether the name server is configured or a top server.
+fn is_known(hosts: &Hosts<'_>, ns: &Name) -> bool
+    ensures { result ≡ (is_configured hosts.now ns.now || is_top hosts.now ns.now) }
+{
+    hosts.host(ns).is_some() || is_among(hosts.config().tops.items(), ns)
+}
+
+/// What a referral shows, where all is asked. The sets of learnt addresses are empty: which they are doesn't matter to what
+/// both zones hold.
+fn all_flags(alloc: Global, hosts: &Hosts<'_>, place: LentCut<'_>) -> Result<CutFlags, NoMemory>
+    requires { is_prefix place.zone.now place.cut.now ≡ true }
+    ensures { IfOk result (λ flags. flags ≡ flags_of hosts.now no_deps (cut_of place.entry)) }
 {
     let sets = LearntSets::build(
         alloc,
@@ -224,51 +249,30 @@ fn side_faults(
             greatest: List::new(alloc),
         },
     )?;
-    let place = Cut {
-        server: at.row().server.copy(alloc)?,
-        zone: at.tree().zone().origin.copy(alloc)?,
-        cut: cut.copy(alloc)?,
-        ns: ns.copy(alloc)?,
-    };
-    let mut faults = List::new(alloc);
-    put_cut_faults(alloc, hosts, &sets, &place, &mut faults)?;
-    Ok(faults)
+    CutFlags::of(alloc, hosts, &sets, place)
 }
 
-/// Puts the lines of faults at the end.
-fn put_faults(
-    alloc: Global,
-    lines: &mut List<Line>,
-    at: &RowZone<'_, '_>,
-    cut: &Name,
-    ns: &Name,
-    faults: &[Fault],
-) -> Result<(), NoMemory>
-    ensures { OnOk result (lines.new ≡ lines.old ++ flat_map (fault_line at.now.row at.now.zone cut.now ns.now) faults.now) }
+/// What a referral shows to a name server that is neither configured nor a top server: whether glue is missing.
+fn glue_flags(alloc: Global, hosts: &Hosts<'_>, place: LentCut<'_>) -> Result<CutFlags, NoMemory>
+    requires { (is_configured hosts.now place.ns.now || is_top hosts.now place.ns.now) ≡ false }
+    ensures { IfOk result (λ flags. flags ≡ flags_of hosts.now no_deps (cut_of place.entry)) }
 {
-    for fault in faults {
-        put_fault(alloc, lines, at, cut, ns, fault)?;
-    }
-    Ok(())
+    let cut = place.copy(alloc)?;
+    Ok(CutFlags {
+        differs: false,
+        no_glue: lacks_glue(hosts, &cut),
+        glue_differs: false,
+        cyclic: false,
+        no_address: false,
+        unhosted: true,
+    })
 }
 
-/// Puts the line of a fault at the end.
-fn put_fault(
-    alloc: Global,
-    lines: &mut List<Line>,
-    at: &RowZone<'_, '_>,
-    cut: &Name,
-    ns: &Name,
-    fault: &Fault,
-) -> Result<(), NoMemory>
-    ensures { OnOk result (lines.new ≡ lines.old ++ fault_line at.now.row at.now.zone cut.now ns.now fault.now) }
+/// Whether the name server is at or below the cut, and could not be followed by its glue.
+fn lacks_glue(hosts: &Hosts<'_>, cut: &Cut) -> bool
+    ensures { result ≡ (is_prefix cut.now.cut cut.now.ns && not (may_follow hosts.now cut.now [])) }
 {
-    match fault {
-        Fault::Differs(_) => put_ns_line(alloc, lines, at, cut, ns, NsWord::Differs),
-        Fault::NoGlue(_) => put_ns_line(alloc, lines, at, cut, ns, NsWord::NoGlue),
-        Fault::GlueDiffers(_) => put_ns_line(alloc, lines, at, cut, ns, NsWord::GlueDiffers),
-        _ => Ok(()),
-    }
+    cut.cut.is_prefix_of(&cut.ns) && !hosts.may_follow(cut, &[])
 }
 
 /// Puts the line of a zone cut at the end of which the row's server itself holds the zone, though it isn't delegated to it.

@@ -3,15 +3,17 @@
 ghost use Rattle.std.specs.Prelude.{◌≡◌, ◌++◌, ◌∷◌, [], decimal, codes, map, IfOk, OnOk};
 ghost use Rattle.std.specs.List.{flat_map};
 ghost use Rattle.dns_data.specs.DataText.{separated};
+ghost use Rattle.dns_data.specs.Spelling.{name_text};
 ghost use Rattle.config_load.specs.Faults.{name_numbered};
 ghost use Rattle.zone_map.specs.Columns.{file_text, columns_line, tab, as_written};
 ghost use Rattle.zone_map.specs.Records.{other_tokens, other_word, record_columns, records_text, row_text, told_data, type_text};
 
 use crate::columns::{put_file, put_name, put_number, put_tab, put_written};
+use crate::held::HeldZones;
 use crate::lines::{self, put_name_column};
 use config_load::{Loaded, RowFiles};
 use dns_data::{List, NoMemory, Octets, Rdata, Rr, Text, rdata_text};
-use net_model::{Config, held_zone};
+use net_model::Config;
 use std::alloc::Global;
 
 /// The lines of all records, in the order of rows.
@@ -25,9 +27,17 @@ pub(crate) fn records_text(alloc: Global, all: &Loaded) -> Result<Octets, NoMemo
 fn rows_text(alloc: Global, config: &Config, rows: &[RowFiles]) -> Result<Octets, NoMemory>
     ensures { IfOk result (λ text. text ≡ flat_map (row_text config.now) rows.now) }
 {
+    let zones = HeldZones::of(alloc, config)?;
+    rows_with(alloc, &zones, rows)
+}
+
+/// The same, where the zones are found by their servers and origins.
+fn rows_with(alloc: Global, zones: &HeldZones<'_>, rows: &[RowFiles]) -> Result<Octets, NoMemory>
+    ensures { IfOk result (λ text. text ≡ flat_map (row_text zones.now) rows.now) }
+{
     let mut text = Octets::new();
     for row in rows {
-        put_row(alloc, &mut text, config, row)?;
+        put_row(alloc, &mut text, zones, row)?;
     }
     Ok(text)
 }
@@ -36,32 +46,61 @@ fn rows_text(alloc: Global, config: &Config, rows: &[RowFiles]) -> Result<Octets
 fn put_row(
     alloc: Global,
     text: &mut Octets,
-    config: &Config,
+    zones: &HeldZones<'_>,
     row: &RowFiles,
 ) -> Result<(), NoMemory>
-    ensures { OnOk result (text.new ≡ text.old ++ row_text config.now row.now) }
+    ensures { OnOk result (text.new ≡ text.old ++ row_text zones.now row.now) }
 {
-    match held_zone(config, &row.server, &row.origin) {
-        Some(zone) => put_records(alloc, text, row, zone.rrs.items()),
+    match zones.get(alloc, &row.server, &row.origin)? {
+        Some(zone) => {
+            let front = front_of(alloc, row)?;
+            put_records(alloc, text, front.items(), row, zone.rrs.items())
+        }
         None => Ok(()),
     }
 }
 
-/// Puts the lines of records at the end.
-fn put_records(alloc: Global, text: &mut Octets, row: &RowFiles, rrs: &[Rr]) -> Result<(), NoMemory>
+/// The first columns of each record of a row, with a tab behind each: they are spelt once.
+fn front_of(alloc: Global, row: &RowFiles) -> Result<Octets, NoMemory>
+    ensures { IfOk result (λ front. front ≡ ((name_text row.now.server ++ tab) ++ name_text row.now.origin) ++ tab) }
+{
+    let mut front = Octets::new();
+    put_name(alloc, &mut front, &row.server)?;
+    put_tab(alloc, &mut front)?;
+    put_name(alloc, &mut front, &row.origin)?;
+    put_tab(alloc, &mut front)?;
+    Ok(front)
+}
+
+/// Puts the lines of records, which begin so, at the end.
+fn put_records(
+    alloc: Global,
+    text: &mut Octets,
+    front: &[u8],
+    row: &RowFiles,
+    rrs: &[Rr],
+) -> Result<(), NoMemory>
+    requires { front.now ≡ ((name_text row.now.server ++ tab) ++ name_text row.now.origin) ++ tab }
     ensures { OnOk result (text.new ≡ text.old ++ flat_map (λ rr. columns_line (record_columns row.now rr)) rrs.now) }
 {
     for rr in rrs {
-        put_record(alloc, text, row, rr)?;
+        put_record(alloc, text, front, row, rr)?;
     }
     Ok(())
 }
 
-/// Puts the line of a record at the end.
-fn put_record(alloc: Global, text: &mut Octets, row: &RowFiles, rr: &Rr) -> Result<(), NoMemory>
+/// Puts the line of a record, which begins so, at the end.
+fn put_record(
+    alloc: Global,
+    text: &mut Octets,
+    front: &[u8],
+    row: &RowFiles,
+    rr: &Rr,
+) -> Result<(), NoMemory>
+    requires { front.now ≡ ((name_text row.now.server ++ tab) ++ name_text row.now.origin) ++ tab }
     ensures { OnOk result (text.new ≡ text.old ++ columns_line (record_columns row.now rr.now)) }
 {
-    put_columns(alloc, text, row, rr)?;
+    put_columns(alloc, text, front, row, rr)?;
     text.push(alloc, b'\n')
 }
 
@@ -111,14 +150,18 @@ fn put_data_columns(
     columns.push(told)
 }
 
-/// Puts the columns of a record at the end.
-fn put_columns(alloc: Global, text: &mut Octets, row: &RowFiles, rr: &Rr) -> Result<(), NoMemory>
+/// Puts the columns of a record, which begin so, at the end.
+fn put_columns(
+    alloc: Global,
+    text: &mut Octets,
+    front: &[u8],
+    row: &RowFiles,
+    rr: &Rr,
+) -> Result<(), NoMemory>
+    requires { front.now ≡ ((name_text row.now.server ++ tab) ++ name_text row.now.origin) ++ tab }
     ensures { OnOk result (text.new ≡ text.old ++ separated tab (record_columns row.now rr.now)) }
 {
-    put_name(alloc, text, &row.server)?;
-    put_tab(alloc, text)?;
-    put_name(alloc, text, &row.origin)?;
-    put_tab(alloc, text)?;
+    text.extend_from_slice(alloc, front)?;
     put_name(alloc, text, &rr.owner)?;
     put_tab(alloc, text)?;
     put_type(alloc, text, &rr.rdata)?;

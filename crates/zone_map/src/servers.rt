@@ -1,25 +1,27 @@
 //! The lines of the names of name servers.
 
-ghost use Rattle.std.specs.Prelude.{◌≡◌, ◌++◌, ◌∷◌, [], ◌==◌, true, false, decimal, length, map, List as Items, IfOk, OnOk};
+ghost use Rattle.std.specs.Prelude.{◌≡◌, ◌++◌, ◌∷◌, [], map, IfOk, OnOk};
+ghost use Rattle.std.specs.List.{flat_map};
+ghost use Rattle.dns_data.specs.DataText.{separated};
 ghost use Rattle.dns_data.specs.Name.{name_cmp};
-ghost use Rattle.dns_data.specs.Spelling.{name_text};
-ghost use Rattle.net_model.specs.Nearest.{is_configured, server_names};
+ghost use Rattle.net_model.specs.Nearest.{is_configured};
 ghost use Rattle.net_model.specs.Order.{in_order};
 ghost use Rattle.name_ends.specs.Asked.{ends_in};
-ghost use Rattle.zone_map.specs.NameLists.{listed_at};
-ghost use Rattle.zone_map.specs.Namings.{KnowsNamings};
-ghost use Rattle.zone_map.specs.Servers.{first_place, is_at, namings_for, namings_of, owner_count, owner_if, owners_of, server_counts, server_line, server_text, server_word, servers_of};
-ghost use Rattle.zone_map.specs.declared.namings.Naming.{Naming as NamingValue};
+ghost use Rattle.zone_map.specs.Columns.{tab};
+ghost use Rattle.zone_map.specs.NameLists.{Lists, listed_at};
+ghost use Rattle.zone_map.specs.Servers.{first_place, is_at, names_server, owner_count, owner_if, owners_of, server_columns, server_counts, server_line, server_text, server_word, servers_of};
 
-use crate::lines::{Line, put_all, put_line, put_name_column, put_number_column, put_octets};
-use crate::name_lists::listed_at;
+use crate::columns::{put_name, put_number, put_tab};
+use crate::lines::{Line, put_behind};
+use crate::name_key::NameKey;
+use crate::name_lists::{list_at, listed_at};
 use crate::namings::{Naming, namings_of};
 use config_load::RowFiles;
 use dns_data::{List, Name, NoMemory, Octets};
 use name_ends::{Asker, NameEnds};
 use net_model::Server;
 use std::alloc::Global;
-use std::collections::{BTreeMap, BTreeSet};
+use std::collections::{BTreeSet, HashMap};
 
 /// The word of a name server's name.
 #[derive(Clone, Copy, Debug)]
@@ -45,10 +47,30 @@ pub(crate) fn servers_of(
     ensures { IfOk result (λ lines. lines ≡ servers_of (record { config = asker.old.config; rows = rows.now }) (ends_in asker.old)) }
 {
     let hosts = asker.hosts();
-    let mut told = namings_of(alloc, hosts, rows)?;
-    put_server_names(alloc, &mut told.names, hosts.config().servers.items())?;
-    let names = names_in_order(alloc, told.names.items())?;
-    lines_of(alloc, asker, &told.named, names.as_slice())
+    let namings = namings_of(alloc, hosts, rows)?;
+    let names = told_names(alloc, namings.items(), hosts.config().servers.items())?;
+    let named = by_server(alloc, namings.items())?;
+    lines_of(alloc, asker, &named, names.as_slice())
+}
+
+/// The names that are told, in order: those of name servers, and those of the servers.
+fn told_names(alloc: Global, namings: &[Naming], servers: &[Server]) -> Result<Vec<Name>, NoMemory>
+    ensures { IfOk result (λ names. names.items ≡ in_order name_cmp (map (λ naming. naming.server) namings.now ++ map (λ server. server.name) servers.now)) }
+{
+    let mut names = List::new(alloc);
+    put_named(alloc, &mut names, namings)?;
+    put_server_names(alloc, &mut names, servers)?;
+    names_in_order(alloc, names.items())
+}
+
+/// Puts the names of name servers at the end.
+fn put_named(alloc: Global, names: &mut List<Name>, namings: &[Naming]) -> Result<(), NoMemory>
+    ensures { OnOk result (names.new ≡ names.old ++ map (λ naming. naming.server) namings.now) }
+{
+    for naming in namings {
+        names.push(naming.server.copy(alloc)?)?;
+    }
+    Ok(())
 }
 
 /// Puts the names of servers at the end.
@@ -63,6 +85,20 @@ fn put_server_names(
         names.push(server.name.copy(alloc)?)?;
     }
     Ok(())
+}
+
+/// What names each name server, in the order in which it was read.
+fn by_server<'n>(
+    alloc: Global,
+    namings: &'n [Naming],
+) -> Result<HashMap<NameKey, List<&'n Naming>>, NoMemory>
+    ensures { IfOk result (Lists names_server namings.now) }
+{
+    let mut lists = HashMap::new(alloc);
+    for naming in namings {
+        list_at(alloc, &mut lists, &naming.server, naming)?;
+    }
+    Ok(lists)
 }
 
 /// The names in order, each once.
@@ -91,10 +127,10 @@ fn name_set(alloc: Global, names: &[Name]) -> Result<BTreeSet<Name>, NoMemory>
 fn lines_of(
     alloc: Global,
     asker: &mut Asker<'_, '_>,
-    named: &BTreeMap<Name, List<Naming>>,
+    named: &HashMap<NameKey, List<&Naming>>,
     names: &[Name],
 ) -> Result<List<Line>, NoMemory>
-    ensures { IfOk result (λ lines. lines ≡ map (λ name. server_line (ends_in asker.old name) (is_configured asker.old.config name) name (listed_at named.now name)) names.now) }
+    ensures { IfOk result (λ lines. lines ≡ map (λ name. server_line (ends_in asker.old name) (is_configured asker.old.config name) name (map (λ one. one.now) (listed_at named.now name))) names.now) }
 {
     let mut lines = List::new(alloc);
     for name in names {
@@ -108,72 +144,83 @@ fn put_server(
     alloc: Global,
     lines: &mut List<Line>,
     asker: &mut Asker<'_, '_>,
-    named: &BTreeMap<Name, List<Naming>>,
+    named: &HashMap<NameKey, List<&Naming>>,
     name: &Name,
 ) -> Result<(), NoMemory>
-    ensures lines { OnOk result (lines.new ≡ lines.old ++ server_line (ends_in asker.old name.now) (is_configured asker.old.config name.now) name.now (listed_at named.now name.now) ∷ []) }
+    ensures lines { OnOk result (lines.new ≡ lines.old ++ server_line (ends_in asker.old name.now) (is_configured asker.old.config name.now) name.now (map (λ one. one.now) (listed_at named.now name.now)) ∷ []) }
     ensures kept { asker.new ≡ asker.old }
 {
+    let key = NameKey::of(alloc, name)?;
     let ends = asker.ends(alloc, name)?;
     let configured = asker.hosts().host(name).is_some();
-    let listed = listed_at(named, name);
-    put_server_line(alloc, lines, ends, configured, name, listed)
+    let line = line_of(alloc, ends, configured, name, listed_at(named, &key))?;
+    lines.push(line)
 }
 
-/// Puts the line of a name at the end, by what names it.
-fn put_server_line(
+/// The line of a name, by what names it.
+fn line_of(
     alloc: Global,
-    lines: &mut List<Line>,
     ends: NameEnds,
     configured: bool,
     name: &Name,
-    namings: &[Naming],
-) -> Result<(), NoMemory>
-    ensures { OnOk result (lines.new ≡ lines.old ++ server_line ends configured name.now namings.now ∷ []) }
+    namings: &[&Naming],
+) -> Result<Line, NoMemory>
+    ensures { IfOk result (λ line. line ≡ server_line ends configured name.now (map (λ one. one.now) namings.now)) }
 {
     let word = server_word(&ends, configured, namings.is_empty());
-    let mut columns = name_columns(alloc, word.text(), name)?;
-    put_counts(alloc, &mut columns, namings)?;
-    put_first_place(alloc, &mut columns, namings)?;
-    put_line(alloc, lines, word.counts(), columns.items())
+    let mut text = Octets::new();
+    put_columns(alloc, &mut text, word.text(), name, namings)?;
+    text.push(alloc, b'\n')?;
+    Ok(Line {
+        counts: word.counts(),
+        text,
+    })
 }
 
-/// The first columns of a line: a word and a name.
-fn name_columns(alloc: Global, word: &str, name: &Name) -> Result<List<Octets>, NoMemory>
-    ensures { IfOk result (λ columns. columns ≡ word.now ∷ name_text name.now ∷ []) }
+/// Puts the columns of a line at the end: a word, a name, how many different origins and how many different zone cuts name it,
+/// and the place of the first record that does.
+fn put_columns(
+    alloc: Global,
+    text: &mut Octets,
+    word: &str,
+    name: &Name,
+    namings: &[&Naming],
+) -> Result<(), NoMemory>
+    ensures { OnOk result (text.new ≡ text.old ++ separated tab (server_columns word.now name.now (map (λ one. one.now) namings.now))) }
 {
-    let mut columns = List::new(alloc);
-    put_octets(alloc, &mut columns, word.as_bytes())?;
-    put_name_column(alloc, &mut columns, name)?;
-    Ok(columns)
-}
-
-/// Puts how many different origins and how many different zone cuts name a server at the end.
-fn put_counts(alloc: Global, columns: &mut List<Octets>, namings: &[Naming]) -> Result<(), NoMemory>
-    ensures { OnOk result (columns.new ≡ columns.old ++ decimal (owner_count true namings.now) ∷ decimal (owner_count false namings.now) ∷ []) }
-{
+    text.extend_from_slice(alloc, word.as_bytes())?;
+    put_tab(alloc, text)?;
+    put_name(alloc, text, name)?;
+    put_tab(alloc, text)?;
     let origins = owner_count(alloc, true, namings)?;
+    put_number(alloc, text, origins as u64)?;
+    put_tab(alloc, text)?;
     let cuts = owner_count(alloc, false, namings)?;
-    put_number_column(alloc, columns, origins as u64)?;
-    put_number_column(alloc, columns, cuts as u64)
+    put_number(alloc, text, cuts as u64)?;
+    put_first_place(alloc, text, namings)
 }
 
 /// How many different origins, or zone cuts, name a server.
-fn owner_count(alloc: Global, at_origin: bool, namings: &[Naming]) -> Result<usize, NoMemory>
-    ensures { IfOk result (λ count. count ≡ owner_count at_origin namings.now) }
+fn owner_count(alloc: Global, at_origin: bool, namings: &[&Naming]) -> Result<usize, NoMemory>
+    ensures { IfOk result (λ count. count ≡ owner_count at_origin (map (λ one. one.now) namings.now)) }
 {
-    let owners = owners_of(alloc, at_origin, namings)?;
-    let ordered = names_in_order(alloc, owners.items())?;
-    Ok(ordered.len())
+    match namings {
+        [only] => Ok(if is_at(at_origin, *only) { 1 } else { 0 }),
+        _ => {
+            let owners = owners_of(alloc, at_origin, namings)?;
+            let ordered = names_in_order(alloc, owners.items())?;
+            Ok(ordered.len())
+        }
+    }
 }
 
 /// The origins, or the zone cuts, of records.
-fn owners_of(alloc: Global, at_origin: bool, namings: &[Naming]) -> Result<List<Name>, NoMemory>
-    ensures { IfOk result (λ owners. owners ≡ owners_of at_origin namings.now) }
+fn owners_of(alloc: Global, at_origin: bool, namings: &[&Naming]) -> Result<List<Name>, NoMemory>
+    ensures { IfOk result (λ owners. owners ≡ owners_of at_origin (map (λ one. one.now) namings.now)) }
 {
     let mut owners = List::new(alloc);
     for naming in namings {
-        put_owner(alloc, &mut owners, at_origin, naming)?;
+        put_owner(alloc, &mut owners, at_origin, *naming)?;
     }
     Ok(owners)
 }
@@ -204,19 +251,16 @@ fn is_at(at_origin: bool, naming: &Naming) -> bool
     }
 }
 
-/// Puts the columns of the place of the first record that names a server at the end, both empty where there is none.
-fn put_first_place(
-    alloc: Global,
-    columns: &mut List<Octets>,
-    namings: &[Naming],
-) -> Result<(), NoMemory>
-    ensures { OnOk result (columns.new ≡ columns.old ++ first_place namings.now) }
+/// Puts the columns of the place of the first record that names a server at the end, each behind a tab, both empty where there
+/// is none.
+fn put_first_place(alloc: Global, text: &mut Octets, namings: &[&Naming]) -> Result<(), NoMemory>
+    ensures { OnOk result (text.new ≡ text.old ++ flat_map (λ next. tab ++ next) (first_place (map (λ one. one.now) namings.now))) }
 {
     match namings {
-        [first, ..] => put_all(alloc, columns, first.place.items()),
+        [first, ..] => put_behind(alloc, text, b"\t", first.place.items()),
         [] => {
-            put_octets(alloc, columns, b"")?;
-            put_octets(alloc, columns, b"")
+            put_tab(alloc, text)?;
+            put_tab(alloc, text)
         }
     }
 }

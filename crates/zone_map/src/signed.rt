@@ -4,13 +4,14 @@ ghost use Rattle.std.specs.Prelude.{◌≡◌, map, IfOk};
 ghost use Rattle.zone_map.specs.Chain.{ds_records, is_ds_at, signed_cut};
 ghost use Rattle.zone_map.specs.NameLists.{Lists};
 
+use crate::name_key::NameKey;
 use crate::name_lists::{list_at, listed_at};
 use crate::placed::{PlacedSigner, signers_of};
 use config_load::RowFiles;
 use dns_data::{List, Name, NoMemory, Rr};
 use key_chain::is_ds;
 use std::alloc::Global;
-use std::collections::BTreeMap;
+use std::collections::HashMap;
 use std::marker::Model;
 use zone_tree::Tree;
 
@@ -19,7 +20,7 @@ use zone_tree::Tree;
 pub(crate) struct SignedZone<'z, 'a> {
     row: &'z RowFiles,
     tree: &'z Tree<'a>,
-    by_owner: BTreeMap<Name, List<&'a Rr>>,
+    by_owner: HashMap<NameKey, List<&'a Rr>>,
 }
 
 impl<'z, 'a> Model for SignedZone<'z, 'a> {
@@ -66,7 +67,7 @@ impl<'z, 'a> SignedZone<'z, 'a> {
     }
 
     /// The DS records of this owner, in whatever form, in the order in which they were read.
-    pub(crate) fn ds_records(&self, owner: &Name) -> &[&'a Rr]
+    pub(crate) fn ds_records(&self, owner: &NameKey) -> &[&'a Rr]
         ensures { map (λ rr. rr.now) result.now ≡ ds_records self.now.zone owner.now }
     {
         listed_at(&self.by_owner, owner)
@@ -74,10 +75,10 @@ impl<'z, 'a> SignedZone<'z, 'a> {
 }
 
 /// The DS records by their owners.
-fn ds_by_owner<'a>(alloc: Global, rrs: &'a [Rr]) -> Result<BTreeMap<Name, List<&'a Rr>>, NoMemory>
+fn ds_by_owner<'a>(alloc: Global, rrs: &'a [Rr]) -> Result<HashMap<NameKey, List<&'a Rr>>, NoMemory>
     ensures { IfOk result (Lists is_ds_at rrs.now) }
 {
-    let mut lists = BTreeMap::new(alloc);
+    let mut lists = HashMap::new(alloc);
     for rr in rrs {
         if is_ds(&rr.rdata) {
             list_at(alloc, &mut lists, &rr.owner, rr)?;
@@ -114,7 +115,8 @@ impl<'c, 'a> CutSigners<'c, 'a> {
         ensures { IfOk result (λ signed. signed ≡ signed_cut at.entry.now.row at.entry.now.zone cut.entry.now) }
     {
         let row = at.row();
-        let rrs = at.ds_records(cut);
+        let owner = NameKey::of(alloc, cut)?;
+        let rrs = at.ds_records(&owner);
         let signers = signers_of(alloc, row, rrs)?;
         Ok(CutSigners {
             row,

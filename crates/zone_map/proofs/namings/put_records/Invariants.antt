@@ -1,10 +1,8 @@
--- So far it is known what the first records name.
-use Rattle.std.proofs.Common.{List, ◌++◌, take}
+-- So far there is what the first records name.
+use Rattle.std.proofs.Common.{◌≡◌, ◌++◌, take}
 use Rattle.std.specs.List.{flat_map}
-use Rattle.zone_map.specs.Namings.{KnowsNamings}
 use Rattle.zone_map.specs.Servers.{namings_at}
-use Rattle.zone_map.specs.declared.namings.Naming.{Naming}
 use Rattle.zone_map.proofs.namings.put_records.Given as goal
 
 abbrev pub invariant-loop-rr : goal.invariant-loop-rr
-invariant-loop-rr l = (before : List Naming) → KnowsNamings before l.fn.told → KnowsNamings (before ++ flat_map (namings_at l.row l.tree.zone) (take l.rr-index l.rrs)) l.told
+invariant-loop-rr l = l.namings ≡ l.fn.namings ++ flat_map (namings_at l.row l.tree.zone) (take l.rr-index l.rrs)

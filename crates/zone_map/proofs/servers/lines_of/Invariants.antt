@@ -8,6 +8,6 @@ use Rattle.zone_map.proofs.servers.lines_of.Given as goal
 
 abbrev pub invariant-loop-name : goal.invariant-loop-name
 invariant-loop-name l = record {
-  lines : l.lines ≡ map (λ name. server_line (ends_in l.fn.asker name) (is_configured l.fn.asker.config name) name (listed_at l.named name)) (take l.name-index l.names);
+  lines : l.lines ≡ map (λ name. server_line (ends_in l.fn.asker name) (is_configured l.fn.asker.config name) name (map (λ one. one.now) (listed_at l.named name))) (take l.name-index l.names);
   kept : l.asker ≡ l.fn.asker;
 }

@@ -9,7 +9,7 @@ use Rattle.zone_map.proofs.versions.first_copies.Goals as goal
 
 pub loop-row-preserved : goal.loop-row-preserved
 loop-row-preserved c =
-    let config = c.args.config.now in
+    let config = c.args.hosts.now in
     let rows = c.args.rows.now in
     let row = c.row-item.result in
     let before : List RowFiles = map (λ (one : Bor RowFiles). one.now) (take c.loop-row.row-index rows) in

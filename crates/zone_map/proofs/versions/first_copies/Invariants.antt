@@ -6,6 +6,6 @@ use Rattle.zone_map.proofs.versions.first_copies.Given as goal
 
 abbrev pub invariant-loop-row : goal.invariant-loop-row
 invariant-loop-row l = record {
-  firsts : map (λ row. row.now) l.firsts ≡ first_copies l.config (map (λ row. row.now) (take l.row-index l.rows));
-  known : KnowsCopies l.config (map (λ row. row.now) (take l.row-index l.rows)) l.known;
+  firsts : map (λ row. row.now) l.firsts ≡ first_copies l.hosts (map (λ row. row.now) (take l.row-index l.rows));
+  known : KnowsCopies l.hosts (map (λ row. row.now) (take l.row-index l.rows)) l.known;
 }

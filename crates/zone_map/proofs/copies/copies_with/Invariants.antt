@@ -3,10 +3,10 @@ use Rattle.std.proofs.Common.{◌≡◌, [], take}
 use Rattle.zone_map.specs.Copies.{copy_lines}
 use Rattle.zone_map.specs.FirstCopies.{KnowsFirsts}
 use Rattle.zone_map.specs.Lines.{by_earlier}
-use Rattle.zone_map.proofs.copies.copies_among.Given as goal
+use Rattle.zone_map.proofs.copies.copies_with.Given as goal
 
 abbrev pub invariant-loop-i : goal.invariant-loop-i
 invariant-loop-i l = record {
-  lines : l.lines ≡ by_earlier (copy_lines l.config) [] (take l.i l.rows);
-  firsts : KnowsFirsts l.config (take l.i l.rows) l.firsts;
+  lines : l.lines ≡ by_earlier (copy_lines l.zones) [] (take l.i l.rows);
+  firsts : KnowsFirsts l.zones (take l.i l.rows) l.firsts;
 }

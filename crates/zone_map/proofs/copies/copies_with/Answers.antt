@@ -7,10 +7,10 @@ use Rattle.zone_map.specs.Lines.{by_earlier}
 use Rattle.zone_map.specs.declared.lines.Line.{Line}
 use Rattle.zone_map.proofs.FirstCopies.{none_known}
 use Rattle.zone_map.proofs.RowsBefore.{next_item, told_more}
-use Rattle.zone_map.proofs.copies.copies_among.Goals as goal
+use Rattle.zone_map.proofs.copies.copies_with.Goals as goal
 
 pub loop-i-init : goal.loop-i-init
-loop-i-init c = record { lines = c.new-lines.ensures; firsts = none_known c.args.config.now c.new-firsts.result c.new-firsts.ensures.empty }
+loop-i-init c = record { lines = c.new-lines.ensures; firsts = none_known c.args.zones.now c.new-firsts.result c.new-firsts.ensures.empty }
 
 pub loop-i-preserved : goal.loop-i-preserved
 loop-i-preserved c =
@@ -18,12 +18,12 @@ loop-i-preserved c =
     let row = c.index-rows-i.result in
     let before : List RowFiles = take c.loop-i.i rows in
     let more : take (c.loop-i.i + 1) rows ≡ before ++ row ∷ [] = next_item rows c.loop-i.i row c.loop-i-test.true c.index-rows-i.is in
-    let tell = copy_lines c.args.config.now in
+    let tell = copy_lines c.args.zones.now in
     record {
       lines =
           c.in_ok-put_copy.ensures.lines before c.loop-i.invariant.firsts (omega (arith, length-take-le c.loop-i.i rows (omega (arith, c.loop-i-test.true))))
           ∙ ap (λ (lines : List Line). lines ++ tell before row) c.loop-i.invariant.lines
           ∙ sym (told_more tell [] before row)
           ∙ sym (ap (by_earlier tell []) more);
-      firsts = subst (λ (all : List RowFiles). KnowsFirsts c.args.config.now all c.put_copy.new.firsts) (sym more) (c.in_ok-put_copy.ensures.firsts before c.loop-i.invariant.firsts);
+      firsts = subst (λ (all : List RowFiles). KnowsFirsts c.args.zones.now all c.put_copy.new.firsts) (sym more) (c.in_ok-put_copy.ensures.firsts before c.loop-i.invariant.firsts);
     }

@@ -2,7 +2,7 @@
 use Rattle.std.proofs.Common.{◌≡◌, take}
 use Rattle.std.specs.List.{flat_map}
 use Rattle.zone_map.specs.Records.{row_text}
-use Rattle.zone_map.proofs.records.rows_text.Given as goal
+use Rattle.zone_map.proofs.records.rows_with.Given as goal
 
 abbrev pub invariant-loop-row : goal.invariant-loop-row
-invariant-loop-row l = l.text ≡ flat_map (row_text l.config) (take l.row-index l.rows)
+invariant-loop-row l = l.text ≡ flat_map (row_text l.zones) (take l.row-index l.rows)

@@ -1,7 +1,7 @@
 use Rattle.std.proofs.Common.{ap, sym, ◌∙◌}
 use Rattle.net_model.specs.Step.{Setting}
 use Rattle.name_ends.specs.Asked.{ends_in}
-use Rattle.name_ends.proofs.asker.Asker.ends.Goals as goal
+use Rattle.name_ends.proofs.asker.Asker.ends_of_walks.Goals as goal
 
 pub returns-in-Some-clause-ends : goal.returns-in-Some-clause-ends
 returns-in-Some-clause-ends c =
