@@ -9,7 +9,8 @@ use Rattle.dns_data.proofs.Membership.{has_first, pairs_first, pairs_rest}
 use Rattle.dns_data.proofs.NameOrder.{names_total}
 use Rattle.part_reports.specs.Bounds.{Bounds, begun_at, is_within, parted_at}
 
-less_of : (a b : Labels) → is_lt (name_cmp a b) ≡ true → name_cmp a b ≡ Less
+-- a name that is less stands before
+pub less_of : (a b : Labels) → is_lt (name_cmp a b) ≡ true → name_cmp a b ≡ Less
 less_of a b e = by (name_cmp a b) e where
   by : (o : Ordering) → is_lt o ≡ true → o ≡ Less
   by Less e = refl

@@ -7,7 +7,7 @@ use Rattle.graph_form.specs.declared.report.Report.{Report}
 use Rattle.graph_form.specs.declared.report.ReportEntry.{ReportEntry}
 use Rattle.net_model.specs.declared.fault.Fault.{Fault}
 use Rattle.part_reports.specs.Gathered.{IsClassedEntry, HasEntryOf, AreClassedEntriesOf}
-use Rattle.part_reports.specs.PartReport.{ClassedEntry}
+use Rattle.part_form.specs.PartText.{ClassedEntry}
 
 -- right entries with their classes
 pub record WithClasses (subject : Subject) (entries : List ReportEntry) : Type 0 where

@@ -21,7 +21,7 @@ use Rattle.part_laws.proofs.QueriesAlike.{walk_along_alike}
 use Rattle.part_laws.proofs.ShownAlike.{shown_alike, walks_show_alike}
 use Rattle.query_verdicts.specs.Carried.{whole_config}
 use Rattle.part_reports.specs.Gathered.{IsClassedEntry}
-use Rattle.part_reports.specs.PartReport.{ClassedEntry}
+use Rattle.part_form.specs.PartText.{ClassedEntry}
 use Rattle.part_reports.proofs.LocalClasses.{class_name_local, class_shows_whole}
 
 -- walks along lists of numbers are walks

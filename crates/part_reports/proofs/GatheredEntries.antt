@@ -21,7 +21,8 @@ use Rattle.part_laws.specs.Part.{restricted}
 use Rattle.query_verdicts.specs.Carried.{whole_config}
 use Rattle.query_verdicts.proofs.Carrying.{shown_by_classes}
 use Rattle.part_reports.specs.Gathered.{AreParts, IsClassedEntry, HasEntryOf, AreClassedEntriesOf, entries_of_all, entry_fault, class_order}
-use Rattle.part_reports.specs.PartReport.{ClassedEntry, PartReport}
+use Rattle.part_form.specs.PartText.{ClassedEntry}
+use Rattle.part_reports.specs.PartReport.{PartReport}
 use Rattle.part_reports.proofs.LocalClasses.{whole_covers, local_in_some, class_shows_left}
 use Rattle.part_reports.proofs.ShownByParts.{parts_show}
 use Rattle.part_reports.proofs.EntriesAlike.{entry_whole}

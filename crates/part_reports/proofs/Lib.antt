@@ -11,3 +11,7 @@ pub mod ByBounds
 pub mod OwnHeld
 mod Worked
 pub mod ClassedReport
+pub mod Following
+pub mod Chosen
+pub mod MergedReport
+pub mod InOrder

@@ -9,7 +9,8 @@ use Rattle.part_laws.specs.Part.{restricted}
 use Rattle.query_verdicts.specs.Carried.{whole_config}
 use Rattle.part_reports.specs.Gathered.{AreClassedEntriesOf, entries_of_all, entry_fault, class_order, gathered_report_of}
 use Rattle.part_reports.specs.Owned.{AreOwnNames, AnswerForAll}
-use Rattle.part_reports.specs.PartReport.{ClassedEntry, PartReport}
+use Rattle.part_form.specs.PartText.{ClassedEntry}
+use Rattle.part_reports.specs.PartReport.{PartReport}
 use Rattle.part_reports.proofs.GatheredEntries.{gathered_report}
 use Rattle.part_reports.proofs.Sizes.{whole_size, parts_cover}
 

@@ -11,7 +11,8 @@ use Rattle.net_model.specs.Class.{class_cmp}
 use Rattle.net_model.specs.Reading.{ground_of}
 use Rattle.net_model.specs.Shown.{ShowsIn}
 use Rattle.part_laws.specs.Part.{IsLocal, IsPart}
-use Rattle.part_reports.specs.PartReport.{ClassedEntry, PartReport}
+use Rattle.part_form.specs.PartText.{ClassedEntry}
+use Rattle.part_reports.specs.PartReport.{PartReport}
 
 -- some of these parts holds the name
 pub record IsHeldBySome (parts : List (List Labels)) (name : Labels) : Type 0 where

@@ -1,13 +1,7 @@
 -- What a part's report tells.
 use Rattle.std.specs.Prelude.{Bool, List}
 use Rattle.dns_data.specs.Name.{Labels}
-use Rattle.graph_form.specs.declared.report.ReportEntry.{ReportEntry}
-use Rattle.net_model.specs.declared.class.Class.{Class}
-
--- an entry of a report, with the class that its query represents
-pub record ClassedEntry : Type 0 where
-  pub class : Class
-  pub entry : ReportEntry
+use Rattle.part_form.specs.PartText.{ClassedEntry}
 
 -- A part and its report: its held names; which base names are its own; the own names of its class tree; those of them below
 -- which there is a class that isn't empty; and the entries of its report.

@@ -1,6 +1,6 @@
 //! Laws of parts that cover a configuration, or answer for it.
 
-ghost use Rattle.std.specs.Prelude.{◌≡◌, ◌↔◌, ◌⊎◌, ◌++◌, ℕ, Bool, true, false, List, [], Contains, map, None};
+ghost use Rattle.std.specs.Prelude.{◌≡◌, ◌↔◌, ◌⊎◌, ◌++◌, ℕ, Bool, true, false, List, [], Contains, map, None, Err};
 ghost use Rattle.std.specs.List.{count_by};
 ghost use Rattle.dns_data.specs.Name.{Labels, AreInOrder};
 ghost use Rattle.graph_form.specs.FirstFaults.{AreFirsts};
@@ -15,7 +15,13 @@ ghost use Rattle.query_verdicts.specs.Passed.{SomeClassPasses, SomeNamePasses};
 ghost use Rattle.part_reports.specs.Bounds.{is_within, parted_at};
 ghost use Rattle.part_reports.specs.Gathered.{AreParts, LocalShows, AreClassedEntriesOf, entries_of_all, entry_fault, class_order, gathered_report_of};
 ghost use Rattle.part_reports.specs.Owned.{AreOwnNames, AnswerForAll};
-ghost use Rattle.part_reports.specs.PartReport.{ClassedEntry, PartReport};
+ghost use Rattle.part_form.specs.PartText.{ClassedEntry};
+ghost use Rattle.part_reports.specs.PartReport.{PartReport};
+ghost use Rattle.part_reports.specs.Reported.{Reported, AreReportsOf, MergesToWhole, StandInOrder, all_read};
+ghost use Rattle.part_form.specs.declared.fault.MergeFault.{MergeFault};
+ghost use Rattle.part_form.specs.declared.fault.MergeFault.TheVariants.{NoMemory};
+ghost use Rattle.part_form.specs.declared.merging.MergedText.{MergedText};
+ghost use Rattle.part_form.specs.Merging.{IsMerged, IsMergedText};
 
 /// A part shows a fault exactly if a local query shows it in the whole.
 pub fn part_shows()
@@ -63,4 +69,13 @@ pub fn gathered_report()
         → (name : Labels) → Contains (ground_of config).names name → own name ≡ true → Contains names name }
     ensures entries { (config : Config) (rewrites : ℕ) (names : List Labels) (report : Report) → IsReport (whole_config (restricted names config) rewrites) report
         → (classed : List ClassedEntry) × (map (λ entry. entry.entry) classed ≡ report.entries) × AreClassedEntriesOf (whole_config (restricted names config) rewrites) classed }
+{}
+
+/// If each of some reports is what is written of a part of a configuration, what is read of their texts is merged to the
+/// report of the whole, unless they don't stand in order or memory runs out.
+pub fn merged_report()
+    ensures whole { (config : Config) (rewrites : ℕ) (reports : List Reported) → AreReportsOf config rewrites reports
+        → (merged : MergedText) → IsMergedText (all_read reports) merged → MergesToWhole config rewrites merged }
+    ensures refused { (config : Config) (rewrites : ℕ) (reports : List Reported) → AreReportsOf config rewrites reports
+        → (fault : MergeFault) → IsMerged (all_read reports) (Err fault) → StandInOrder reports → fault ≡ NoMemory }
 {}

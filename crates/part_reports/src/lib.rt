@@ -8,4 +8,4 @@
 
 mod laws;
 
-pub use laws::{gathered_report, part_shows, parting_names, parts_pass, parts_show};
+pub use laws::{gathered_report, merged_report, part_shows, parting_names, parts_pass, parts_show};

@@ -1,0 +1,4 @@
+pub mod FileRead
+pub mod ReportsRead
+pub mod Endings
+pub mod MergedRun
