@@ -1,0 +1,13 @@
+mod ClassesDecided
+mod DataDecided
+mod EndsExist
+mod FirstsExist
+mod FirstWalksExist
+mod RecheckExists
+mod ReportExists
+mod RisingDiffer
+mod SamenessExists
+mod TakesDecided
+mod ThreeParts
+mod TreeListed
+mod WalksCounted

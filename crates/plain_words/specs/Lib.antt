@@ -1,0 +1,16 @@
+pub use Rattle.config_load.specs.Conf
+pub use Rattle.dns_data.specs.Name
+pub use Rattle.dns_data.specs.Rdata
+pub use Rattle.dns_data.specs.DataText
+pub use Rattle.net_model.specs.Class
+pub use Rattle.net_model.specs.Learnt
+pub use Rattle.net_model.specs.Lookup
+pub use Rattle.net_model.specs.Nearest
+pub use Rattle.net_model.specs.Order
+pub use Rattle.net_model.specs.Shown
+pub use Rattle.net_model.specs.Step
+pub use Rattle.net_model.specs.Walk
+pub use Rattle.net_model.specs.Zone
+pub mod Same
+pub mod Steady
+pub mod Tried
