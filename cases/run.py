@@ -1,5 +1,5 @@
 #!/usr/bin/env python3
-"""Runs groot and groot-map on all cases and examples: run.py [--program GROOT] [--map GROOT-MAP] [WORD ..]
+"""Runs groot, groot-map and groot-parts on all cases and examples: run.py [--program GROOT] [--map GROOT-MAP] [--parts GROOT-PARTS] [WORD ..]
 
 It builds each program once, with `rt run` in its crate, unless it is given. With words it runs those cases and
 examples alone whose subject is one of them, or whose name has one in it. For each that goes another way than it says, it prints a line and a diff,
@@ -29,7 +29,8 @@ def contents(*path):
 
 HEAD = contents("cases", "head.zone")
 METADATA = contents("cases", "metadata.json")
-USAGE = {"groot": contents("cases", "usage.txt"), "groot_map": contents("cases", "usage-map.txt")}
+USAGE = {"groot": contents("cases", "usage.txt"), "groot_map": contents("cases", "usage-map.txt"), "groot_parts": contents("cases", "usage-parts.txt")}
+PROGRAMS = {"--program": "groot", "--map": "groot_map", "--parts": "groot_parts"}
 
 
 class Case:
@@ -96,6 +97,8 @@ def put(case, key, name, text):
         case.words = shlex.split(name)
     elif key == "map":
         case.program, case.words = "groot_map", shlex.split(name)
+    elif key == "parts":
+        case.program, case.words = "groot_parts", shlex.split(name)
     elif key == "output":
         case.output = name
     elif key == "usage":
@@ -290,8 +293,8 @@ def check_devices(cases):
 def main(words):
     check_the_checker()
     programs = {}
-    while words[:1] in (["--program"], ["--map"]) and len(words) > 1:
-        programs[{"--program": "groot", "--map": "groot_map"}[words[0]]] = os.path.abspath(words[1])
+    while len(words) > 1 and words[0] in PROGRAMS:
+        programs[PROGRAMS[words[0]]] = os.path.abspath(words[1])
         words = words[2:]
     cases = [case for case in all_cases() if is_asked_for(case, words)]
     for name in sorted({case.program for case in cases} - set(programs)):

@@ -7,7 +7,6 @@ pub mod JudgedScopes
 pub mod HandedChecks
 pub mod JudgedTrees
 mod KeptPieces
-pub mod OneAnswer
 pub mod OneClassList
 pub mod OneEntry
 pub mod OneOutcome

@@ -11,7 +11,7 @@ use Rattle.site_checks.proofs.OneViews.{one_list_of_views}
 use Rattle.net_model.specs.Reading.{ground_of}
 use Rattle.net_model.specs.Step.{following}
 use Rattle.query_verdicts.specs.Carried.{whole_config}
-use Rattle.config_load.specs.Reading.{Reading, Reads, Refuses, Misses, Unknown, file_octets}
+use Rattle.config_load.specs.Reading.{file_octets}
 use Rattle.groot_line.specs.declared.fault.LineFault.{LineFault}
 use Rattle.groot_line.specs.declared.job.Job.{Job}
 use Rattle.groot_line.specs.declared.job.Job.TheVariants as jobs
@@ -20,8 +20,9 @@ use Rattle.groot_line.specs.declared.job.Task.TheVariants as tasks
 use Rattle.groot_line.specs.declared.program.Program.{Program}
 use Rattle.groot_line.specs.Program.{usual_names}
 use Rattle.plain_resolver.specs.Passed.{most_walks_followed}
+use Rattle.run_endings.proofs.OneReading.{one_by_reading}
 use Rattle.run_endings.specs.declared.ending.Ending.{Ending}
-use Rattle.run_endings.specs.Endings.{OfReading, too_many_to_learn}
+use Rattle.run_endings.specs.Endings.{too_many_to_learn}
 use Rattle.groot_run.specs.Outcome.{reported, listed, HasMoreNames, WithinNames, WithinStates, IsReported, Checks, IsClassList, ListsClasses, ask_rewrites, IsAnswerWith, Asks, walks_written, GivesOf, Outcome, Drills, IsDrilled, drilled, drill_rewrites, answered_to, IsRechecked, Rechecks, TellsFindings, ShowsClasses, told_of_views, site_rewrites, Compares, ComparesWith, HasMoreNamesInBoth, IsCompared, compared_of, told_same, HasMoreNamesAt, IsScoped, ScopesSubject, scope_of, scope_written}
 use Rattle.groot_run.specs.Programs.{conf_of, limits_of}
 use Rattle.report_check.proofs.OneAnswer.{only_answer}
@@ -38,7 +39,7 @@ use Rattle.query_verdicts.proofs.OnePassed.{one_passed}
 use Rattle.query_verdicts.specs.Queries.{most_states}
 use Rattle.groot_run.proofs.OneClassList.{one_class_list}
 use Rattle.net_model.proofs.WalkLists.{one_walks}
-use Rattle.groot_run.proofs.OneAnswer.{one_first, none_is_first}
+use Rattle.plain_resolver.proofs.FirstPassed.{one_first, none_is_first}
 use Rattle.net_model.proofs.InForce.{one_in_force}
 
 -- a run gives one thing by whether the class tree has more names than the limit
@@ -118,14 +119,6 @@ one_asked name rtype config a b (inr p) (inr q) =
     (subst (λ (followed : List Labels). IsAnswerWith config followed name rtype a)
     (one_in_force config ask_rewrites p.followed q.followed p.in_force q.in_force) p.answer)
     q.answer
-
--- what is read gives one thing, where a value does
-one_by_reading : {T : Type 0} (name : List ℕ) (of_value : T → Ending → Type 0) → ((value : T) (a b : Ending) → of_value value a → of_value value b → a ≡ b)
-    → (reading : Reading T) (a b : Ending) → OfReading name of_value reading a → OfReading name of_value reading b → a ≡ b
-one_by_reading name of_value one (Reads value) a b p q = one value a b p q
-one_by_reading name of_value one (Refuses fault) a b p q = p ∙ sym q
-one_by_reading name of_value one (Misses file) a b p q = absurd p
-one_by_reading name of_value one (Unknown file) a b p q = absurd p
 
 one_recheck : (program : Program) (told : FilesTold) (file : List ℕ) (config : Config) (a b : Ending) → Rechecks program told file config a → Rechecks program told file config b → a ≡ b
 one_recheck program told file config a b =

@@ -72,9 +72,21 @@ pub(crate) fn spells(alloc: Global, text: &str, spelt: &Name) -> bool {
 pub(crate) fn graph_of(alloc: Global, hosts: &Hosts<'_>, query: Name) -> Result<Graph, GraphFault>
     ensures { IfOk result (IsGraphOf (following hosts.now 12 (server_names hosts.now)) query) }
 {
+    graph_within(alloc, hosts, query, 1000)
+}
+
+/// Such a graph, with at most this many pairs of state and type.
+pub(crate) fn graph_within(
+    alloc: Global,
+    hosts: &Hosts<'_>,
+    query: Name,
+    limit: u32,
+) -> Result<Graph, GraphFault>
+    ensures { IfOk result (IsGraphOf (following hosts.now 12 (server_names hosts.now)) query) }
+{
     let asked = SymName {
         known: query,
         tail: None,
     };
-    build(alloc, hosts, &asked, 12, 1000)
+    build(alloc, hosts, &asked, 12, limit)
 }

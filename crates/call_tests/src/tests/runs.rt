@@ -93,6 +93,8 @@ fn ends<R: Threads + Wait + Sync>(
 fn reads_and_writes_that_fail_are_told(rt: HostRuntime) -> Result<(), Fail> {
     let cases = [
         (1, 50, 5, "", "m.json: read failed\n"),
+        (2, 50, 5, "", "m.json: read failed\n"),
+        (3, 50, 5, "", "t.zone: read failed\n"),
         (4, 50, 5, "", "t.zone: read failed\n"),
         (5, 50, 0, REPORT, ""),
         (0, 10, 6, "{\"classes\"", "output failed\n"),
@@ -106,6 +108,59 @@ fn reads_and_writes_that_fail_are_told(rt: HostRuntime) -> Result<(), Fail> {
         );
     }
     Ok(())
+}
+
+/// Metadata of two zone files on one server.
+const TWO_FILES: &str =
+    "{\"TopNameServers\":[\"ns.t.\"],\"ZoneFiles\":[{\"FileName\":\"one.zone\",\"NameServer\":\"ns.t.\"},{\"FileName\":\"two.zone\",\"NameServer\":\"ns.t.\"}]}";
+
+/// An alias in line 9 beside an address in line 8, and a file with an open parenthesis in line 7.
+const REFUSED: [(&str, &str); 2] = [
+    (
+        "one.zone",
+        "t. 60 SOA ns.t. h.t. 1 2 3 4 5\nt. 60 NS ns.t.\n;\n;\n;\n;\n;\nw.t. 60 A 10.0.0.1\nw.t. 60 CNAME a.t.\n",
+    ),
+    (
+        "two.zone",
+        "t. 60 SOA ns.t. h.t. 1 2 3 4 5\nt. 60 NS ns.t.\n;\n;\n;\n;\nx.t. 60 TXT (\n",
+    ),
+];
+
+// A file is read to its end before its refusal counts, and no file is opened behind a refusal: there is no fifth read.
+#[test]
+fn each_read_before_a_refusal_may_fail(rt: HostRuntime) -> Result<(), Fail> {
+    let cases = [
+        (1, 5, "m.json: read failed\n"),
+        (2, 5, "m.json: read failed\n"),
+        (3, 5, "one.zone: read failed\n"),
+        (4, 5, "one.zone: read failed\n"),
+        (5, 3, "one.zone:9: cname-and-other\n"),
+    ];
+    for (fails, number, err) in cases {
+        let end = End {
+            number,
+            out: "",
+            err,
+        };
+        assert!(rt; is_refused(&rt, rt.alloc(), fails, &end)?, "read {fails}");
+    }
+    Ok(())
+}
+
+/// Whether a check of the two files ends so, of which the read with this number fails.
+fn is_refused<R: Threads + Wait + Sync>(
+    rt: &R,
+    alloc: Global,
+    fails: u32,
+    end: &End,
+) -> Result<bool, NoMemory> {
+    let mut calls = List::new(alloc);
+    calls.push(fails)?;
+    let mut files = files(alloc, TWO_FILES, &REFUSED, calls)?;
+    let mut outputs = two_outputs(alloc, 50)?;
+    let words = ["check", "m.json"];
+    let number = run(rt, alloc, &words, &mut files, &mut outputs, &FreeGate);
+    Ok(has_ended(number, &outputs, end))
 }
 
 /// How often a call at the gate looks for another one before it gives up.

@@ -1,159 +1,124 @@
-//! A work in one thread and in several.
+//! Works in one thread and in several, and the deques of workers.
 
-ghost use Rattle.std.specs.Prelude.{◌≡◌, ◌/◌, ◌≤◌, IfOk};
-ghost use Rattle.std.proofs.lemmas.Map.Lookups.{exact_unsigned};
-ghost use Rattle.verdict_book.specs.Sevens.{children, sevens_apart};
+ghost use Rattle.std.specs.Prelude.{◌≤◌};
 
-use dns_data::{List, NoMemory};
+use super::trees::{Tree, counted, new_tree};
+use dns_data::NoMemory;
 use io_edges::FreeGate;
 use std::alloc::Global;
 use std::sync::Wait;
-use std::sync::atomic::{AtomicU64, Ordering};
 use std::test::Fail;
 use std::thread::Threads;
 use steal_pool::{OwnRow, PoolCount, PoolFault, StealOutcome, run_tree_counted};
-use verdict_book::{Filed, JudgeShare, Judged, Work, walk_tree};
-
-/// The items 0 to 6: each below 3 has two children. The verdict is half the item. It counts its judging calls, and at one
-/// item it has no memory.
-#[derive(Drop)]
-struct Sevens {
-    alloc: Global,
-    calls: AtomicU64,
-    fails: u32,
-}
-
-impl Work for Sevens {
-    type Item = u32;
-
-    type Verdict = u32;
-
-    ghost first_item = { 0 };
-
-    ghost children_of = { children };
-
-    ghost verdict_of = { λ item. item / 2 };
-
-    fn first(&self) -> Result<u32, NoMemory> {
-        Ok(0)
-    }
-
-    fn judge(&self, item: &u32, share: &mut JudgeShare) -> Result<Judged<u32, u32>, NoMemory> {
-        share.raise();
-        self.calls.fetch_add(1, Ordering::SeqCst);
-        if *item == self.fails {
-            return Err(NoMemory);
-        }
-        Ok(Judged {
-            verdict: *item / 2,
-            children: children_of(self.alloc, *item)?,
-        })
-    }
-
-    fn copy_item(&self, item: &u32) -> Result<u32, NoMemory> {
-        Ok(*item)
-    }
-
-    ghost parents_apart = { sevens_apart };
-
-    ghost equal_is_same = { exact_unsigned };
-}
-
-/// The two children of an item below 3.
-fn children_of(alloc: Global, item: u32) -> Result<List<u32>, NoMemory>
-    ensures { IfOk result (λ list. list ≡ children item) }
-{
-    let mut list = List::new(alloc);
-    if item < 3 {
-        list.push(2 * item + 1)?;
-        list.push(2 * item + 2)?;
-    }
-    Ok(list)
-}
-
-fn new_work(alloc: Global, fails: u32) -> Sevens {
-    Sevens {
-        alloc,
-        calls: AtomicU64::new(0),
-        fails,
-    }
-}
-
-/// Whether the list has the items 0 to 6 in their order, each with its verdict.
-fn is_whole(list: &[Filed<Sevens>]) -> bool {
-    for item in 0..7 {
-        if !is_at(list, item) {
-            return false;
-        }
-    }
-    list.len() == 7
-}
-
-/// Whether the item stands at its place in the list, with its verdict.
-fn is_at(list: &[Filed<Sevens>], item: u32) -> bool {
-    match list.get(item as usize) {
-        Some(filed) => filed.item == item && filed.verdict == item / 2,
-        None => false,
-    }
-}
+use verdict_book::walk_tree;
 
 // The pool walks so only where some filing was foreign, which no run meets.
 #[test]
 fn a_walk_judges_each_item_once(rt: HostRuntime) {
-    let work = new_work(rt.alloc(), 7);
-    assert!(rt; is_walked(rt.alloc(), &work));
-    assert!(rt; work.calls.load(Ordering::SeqCst) == 7);
+    let work = new_tree::<2, 7>(rt.alloc(), 7);
+    assert!(rt; walked(rt.alloc(), &work, 6) == Err(PoolFault::TooMany(6)));
+    let whole = new_tree::<2, 7>(rt.alloc(), 7);
+    assert!(rt; walked(rt.alloc(), &whole, 7) == Ok(Some(7)));
+    assert!(rt; whole.calls() == 7);
 }
 
-/// Whether a walk gives the whole list.
-fn is_walked(alloc: Global, work: &Sevens) -> bool {
-    match walk_tree(alloc, work, 7) {
-        Ok(list) => is_whole(list.items()),
-        Err(_) => false,
-    }
+/// How many items a walk gives, if they are in order.
+fn walked(alloc: Global, work: &Tree<2, 7>, limit: u32) -> Result<Option<usize>, PoolFault>
+    requires { 1 ≤ limit }
+{
+    let list = walk_tree(alloc, work, limit)?;
+    Ok(counted(list.items()))
 }
 
-// A run ends, whole or where one of several workers has no memory, and counts the judging calls that there were.
+// A run is whole within as many items as there are, whatever workers it has, and passes any lower limit; where one of its
+// workers has no memory, it ends.
 #[test]
-fn workers_end_where_one_of_them_has_no_memory(rt: HostRuntime) {
-    for (workers, fails) in [(1, 7), (8, 7), (1, 2), (8, 2)] {
+fn runs_end_whole_or_with_their_fault(rt: HostRuntime) {
+    let passed = Err(PoolFault::TooMany(6));
+    let failed = Err(PoolFault::NoMemory);
+    for workers in [1, 2, 8] {
+        let seven = new_tree::<2, 7>(rt.alloc(), 7);
         assert!(rt;
-            ends(&rt, rt.alloc(), workers, fails),
-            "{workers} workers, {fails}"
+            ends(&rt, rt.alloc(), &seven, workers, 7, Ok(Some(7))),
+            "{workers}"
+        );
+        let seven = new_tree::<2, 7>(rt.alloc(), 7);
+        assert!(rt;
+            ends(&rt, rt.alloc(), &seven, workers, 6, passed),
+            "{workers}"
+        );
+        let hundred = new_tree::<2, 100>(rt.alloc(), 50);
+        assert!(rt;
+            ends(&rt, rt.alloc(), &hundred, workers, 100, failed),
+            "{workers}"
         );
     }
 }
 
-/// Whether a run with this many workers ends where it has to, if at this item there is no memory.
-fn ends<R: Threads + Wait + Sync>(rt: &R, alloc: Global, workers: u32, fails: u32) -> bool
-    requires { 1 ≤ workers }
-{
-    let work = new_work(alloc, fails);
-    let mut count = PoolCount::new();
-    let is_end = is_run(rt, alloc, &work, workers, &mut count);
-    is_end && is_counted(&work, &count)
+#[test]
+fn eight_workers_judge_each_of_many_items_once(rt: HostRuntime) {
+    let binary = new_tree::<2, 500>(rt.alloc(), 500);
+    assert!(rt; ends(&rt, rt.alloc(), &binary, 8, 500, Ok(Some(500))));
+    let wide = new_tree::<1000, 1001>(rt.alloc(), 1001);
+    assert!(rt;
+        ends(
+            &rt,
+            rt.alloc(),
+            &wide,
+            8,
+            1000,
+            Err(PoolFault::TooMany(1000))
+        )
+    );
+    let wide = new_tree::<1000, 1001>(rt.alloc(), 1001);
+    assert!(rt; ends(&rt, rt.alloc(), &wide, 8, 1001, Ok(Some(1001))));
 }
 
-/// Whether a run gives the whole list, or no memory where some item has none.
-fn is_run<R: Threads + Wait + Sync>(
+/// Whether a run ends so, and counts the judging calls that there were; where it is whole, these are as many as the items.
+fn ends<const FAN: u32, const SIZE: u32, R: Threads + Wait + Sync>(
     rt: &R,
     alloc: Global,
-    work: &Sevens,
+    work: &Tree<FAN, SIZE>,
     workers: u32,
-    count: &mut PoolCount,
+    limit: u32,
+    wanted: Result<Option<usize>, PoolFault>,
 ) -> bool
-    requires { 1 ≤ workers }
+    requires workers { 1 ≤ workers }
+    requires limit { 1 ≤ limit }
 {
-    match run_tree_counted(rt, alloc, work, workers, 7, &FreeGate, count) {
-        Ok(list) => work.fails == 7 && is_whole(list.items()),
-        Err(fault) => work.fails == 2 && fault == PoolFault::NoMemory,
-    }
+    let mut count = PoolCount::new();
+    let end = ran(rt, alloc, work, workers, limit, &mut count);
+    end == wanted && is_counted(work.calls(), end, &count)
 }
 
-/// Whether the judging calls that there were are counted, each item once where all are judged, and no filing is foreign.
-fn is_counted(work: &Sevens, count: &PoolCount) -> bool {
-    let calls = work.calls.load(Ordering::SeqCst);
-    count.judged == calls && count.foreign == 0 && (work.fails == 2 || calls == 7)
+/// How many items a run gives, if they are in order.
+fn ran<const FAN: u32, const SIZE: u32, R: Threads + Wait + Sync>(
+    rt: &R,
+    alloc: Global,
+    work: &Tree<FAN, SIZE>,
+    workers: u32,
+    limit: u32,
+    count: &mut PoolCount,
+) -> Result<Option<usize>, PoolFault>
+    requires workers { 1 ≤ workers }
+    requires limit { 1 ≤ limit }
+{
+    let list = run_tree_counted(rt, alloc, work, workers, limit, &FreeGate, count)?;
+    Ok(counted(list.items()))
+}
+
+/// Whether so many judging calls are counted, no filing is foreign, and of a whole list each item was claimed, judged and
+/// filed once.
+fn is_counted(calls: u64, end: Result<Option<usize>, PoolFault>, count: &PoolCount) -> bool {
+    let is_whole = match end {
+        Ok(Some(items)) => {
+            let items = items as u64;
+            count.given == items && count.filed == items && calls == items
+        }
+        Ok(None) => false,
+        Err(_) => true,
+    };
+    is_whole && count.judged == calls && count.foreign == 0
 }
 
 // The owner and a thief take the first ticket, and so does a seat that was split off and is joined again.
