@@ -86,6 +86,22 @@ expect 1 "a forgotten row" unmet forgotten-row
 finds forgotten-row "forgotten-row"
 said "shop.example. NS b.nic.example., on a.nic.example."
 known_by_itself forgotten-row
+expect 1 "a mail exchange that only a walk out of what is configured may find" unmet lost-mail-exchange
+finds lost-mail-exchange "forgotten-row target-without-address"
+said "queries: mail2.shop.example. A and AAAA, which end in nxdomain,unhosted"
+known_by_itself lost-mail-exchange
+expect 1 "a copy that a departed customer left, and an alias into it" unmet departed-customer
+finds departed-customer "alias-differs copy-differs unreached-row"
+said "3 findings from 1 cause"
+said "news.shop.example. to www.blog.example., on b.nic.example. ($top/examples/departed-customer/shop.example.zone:5)"
+said "blog.example.: behind: serial 2025010101, not 2026112701, on b.nic.example."
+said "query: www.blog.example. A, at b.nic.example. and from the top servers"
+known_by_itself departed-customer
+expect 1 "a DS record that matches no key" unmet changed-key
+finds changed-key "no-matching-key"
+said "1 finding from 1 cause"
+said "shop.example.: other keys at b.nic.example., on a.nic.example. ($top/examples/changed-key/example.zone:7)"
+known_by_itself changed-key
 for example in lame-delegation missing-glue glue-differs delegation-differs answers-differ; do
     expect 1 "$example: told once" unmet $example --unasked ns3.hoster.example.
     jq -e '[.findings[].from] | unique == ["check"]' "$scratch/unmet/findings.json" >/dev/null || fault "$example is told twice"

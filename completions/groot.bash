@@ -1,4 +1,4 @@
-# Completion of groot, groot-large, groot-map, groot-metadata, groot-gate, groot-changed and groot-changes in bash.
+# Completion of groot, groot-large, groot-map, groot-parts, groot-metadata, groot-gate, groot-changed and groot-changes in bash.
 
 # The options of a command.
 _groot_options() {
@@ -122,8 +122,18 @@ _groot_map() {
     esac
 }
 
+_groot_parts() {
+    local word=${COMP_WORDS[COMP_CWORD]}
+    COMPREPLY=()
+    case $COMP_CWORD in
+        1) mapfile -t COMPREPLY < <(compgen -W "merge" -- "$word") ;;
+        *) _groot_files "$word" ;;
+    esac
+}
+
 complete -F _groot groot groot-large
 complete -F _groot_map groot-map
+complete -F _groot_parts groot-parts
 complete -F _groot_metadata groot-metadata
 complete -F _groot_gate groot-gate
 complete -F _groot_changed groot-changed

@@ -1,5 +1,5 @@
-#compdef groot groot-large groot-map groot-metadata groot-gate groot-changed groot-changes
-# Completion of groot, groot-large, groot-map, groot-metadata, groot-gate, groot-changed and groot-changes in zsh; it is installed as _groot.
+#compdef groot groot-large groot-map groot-parts groot-metadata groot-gate groot-changed groot-changes
+# Completion of groot, groot-large, groot-map, groot-parts, groot-metadata, groot-gate, groot-changed and groot-changes in zsh; it is installed as _groot.
 
 _groot_commands=(
     'check:report every fault that some query shows'
@@ -79,6 +79,7 @@ _groot() {
     case $service in
         groot | groot-large) _groot_words ;;
         groot-map) _groot_map ;;
+        groot-parts) _arguments '1:word:((merge\:"put the reports of parts together"))' '*:report:_files' ;;
         groot-metadata) _arguments $_groot_of_metadata '--output[the metadata file]:file:_files' $_groot_about ;;
         groot-gate)
             _arguments '--old[findings that are known]:findings:_files' \

@@ -46,7 +46,7 @@ NEEDED: Dict[str, List[str]] = {
     "mapped": [f"{MAP} records"], "reached": [f"{MAP} reached"],
 }
 PACKAGES = {
-    "bind9": ["named"], "bind9-utils": ["named-checkconf", "named-compilezone", "named-rrchecker", "rndc"],
+    "bind9": ["named", "named-rrchecker"], "bind9-utils": ["named-checkconf", "named-compilezone", "rndc"],
     "bind9-dnsutils": ["dig", "nsupdate"], "nsd": NSD + ["nsd"], "knot": ["knotc", "knotd"], "pdns-server": ["pdnsutil", "pdns_server"],
     "pdns-backend-bind": [PDNS_BIND],
 }

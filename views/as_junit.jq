@@ -8,8 +8,8 @@ def at: if .file then " file=\"\(.file | file_name | shown | marked)\" line=\"\(
 def case($cause): "\(.kind) \(.subject) on \(.at | map(.server) | distinct | join(", "))" as $name
   | "<testcase classname=\"\(.zone | marked)\" name=\"\($name | marked)\"\(.at[0] | at)>",
     "<failure type=\"\(.kind)\" message=\"\($cause.headline | marked)\">",
-    ("\(.subject)\(details)\nmend: \($cause.mend)\n\(.first | asked)" | marked),
-    (.told | to_entries[] | (select(.key > 0) | "or"), (.value[] | "-> \(.who): \(.says)" | marked)),
+    (.subject + .details + "\nmend: " + $cause.mend + "\n" + (.first | asked) | marked),
+    (.told | to_entries[] | (select(.key > 0) | "or"), (.value[] | "-> " + . | marked)),
     "</failure>", "</testcase>";
 
 # The lines of the suite of findings with their causes.

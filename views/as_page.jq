@@ -24,7 +24,7 @@ ol li b { display: block; }
 ol li:not(:last-child)::after { content: \"\\2192\"; position: absolute; left: calc(100% + .55rem); top: 50%; transform: translateY(-50%); }
 ol li.fault { border: 2px solid var(--error); }
 @media print { body { font-size: .8rem; padding: 0; } article.long { break-inside: auto; } }
-@media (max-width: 40rem) { th, td { padding-right: .7rem; } ol { flex-direction: column; gap: 1.5rem; padding: 0; }
+@media (max-width: 40rem) { table { font-size: .85rem; } th, td { padding-right: .5rem; } tr > :nth-child(4) { display: none; } ul { padding-left: 1rem; } ol { flex-direction: column; gap: 1.5rem; padding: 0; }
   ol li:not(:last-child)::after { content: \"\\2193\"; left: 1rem; top: calc(100% + .75rem); } }
 ";
 def listed: "<li>\(if .kind then "\(.kind): " else "" end | marked)<code>\(.subject | broken)</code>\(.details | broken)</li>";

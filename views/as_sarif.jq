@@ -5,14 +5,14 @@ include "kinds" {search: "./"};
 include "cause" {search: "./"};
 
 # The file of a record as a URI.
-def uri: file_name | (if startswith("/") then "file://" else "" end) + (split("/") | map(@uri) | join("/"));
-def location: {logicalLocations: [{name: .server, fullyQualifiedName: "\(.server) \(.zone)"}]}
+def uri: file_name | (if startswith("/") then "file://" else "" end) + (split("/") | map(@uri) | joined("/"));
+def location: {logicalLocations: [{name: .server, fullyQualifiedName: (.server + " " + .zone)}]}
   + if .file then {physicalLocation: {artifactLocation: {uri: (.file | uri)}, region: {startLine: .line}}} else {} end;
 def rule: . as $kind | kinds[$kind] | "\(.what); to mend it, \(.mend)" as $all
   | {id: $kind, shortDescription: {text: .what}, fullDescription: {text: $all}, help: {text: $all}, defaultConfiguration: {level: .level}};
 def result($cause; $numbers): .kind as $kind | {
   ruleId: $kind, ruleIndex: $numbers[$kind], level: .level,
-  message: {text: ("\(.subject)\(details): \($cause.headline)\n\(.first | asked)" + ([.told[] | "\n\(map("\(.who): \(.says)") | join(" -> "))"] | add // ""))},
+  message: {text: (.subject + .details + ": " + $cause.headline + "\n" + (.first | asked) + ([.told[] | "\n" + joined(" -> ")] | add // ""))},
   locations: [.at[0] | location],
   relatedLocations: (.at[1:] | map(location + {message: {text: .server}})),
   partialFingerprints: {"fault/v1": .key}};

@@ -4,11 +4,11 @@ include "entries" {search: "./"};
 include "cause" {search: "./"};
 
 # A cause. A line that begins with a name, which is another's word, begins with a dash, so that no runner of pipelines obeys it.
-def paragraph: "",
+def paragraph: (if .level == "note" then 5 else 20 end) as $most | "",
   "  \(.kinds | join(", ")): \(.headline)",
   "  mend: \(.mend)",
-  (.listed[:20][] | "    - \(if .kind then "\(.kind): " else "" end)\(.subject)\(.details)"),
-  (.listed | length - 20 | select(. > 0) | "    and \(.) more"),
+  (.listed[:$most][] | "    - \(if .kind then "\(.kind): " else "" end)\(.subject)\(.details)"),
+  (.listed | length - $most | select(. > 0) | "    and \(.) more"),
   "  \(.asked)",
   (.walks | to_entries[] | (select(.key > 0) | "  or"), (.value | shortened[] | "    -> \(.who): \(.says)"));
 

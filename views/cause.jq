@@ -16,21 +16,25 @@ def filled($what): .columns as $line | (lists[.from] | .words[$line.word][$what]
 # How many rewrites lead to the place of an entry; and of several the one to whose place a query comes most directly.
 def detour: . as $entry | [.walks[0] | label $there | .[]
   | if . == $entry.parted[0] or {server, zone, cut, ns} == $entry.place then break $there else select(.to) end] | length;
-def witness: if length == 1 or .[0].columns then .[0] else map(select(.walks)) | min_by([detour, .entry]) end;
+def witness: if length == 1 or .[0].columns then .[0] else map(select(.walks)) | sort_by(.entry)
+  | first(.[] | select(detour == 0)) // min_by([detour, .entry]) end;
 # The line on what is asked.
 def asked: if .columns then filled("asked") else "query: \(.query) \(.type), entry \(.entry)" end;
 
 # Of a finding on two servers that differ: the two with their zones, and without, as text. And which is behind the other one, with
 # both serial numbers, if it shows them (RFC 1982); else null.
-def paired: if .place.name then . + {pair: (.parted | map("\(.server) \(.zone)") | sort | "\(.[0])\t\(.[1])"),
-  servers: (.parted | map(.server) | sort | "\(.[0])\t\(.[1])")} else . end;
 def lag: if .type != "SOA" or .parted == null or any(.parted[]; .rdata | not) then null
   else (.parted | map({server, zone, serial: (.rdata[0] | split(" ")[2] | tonumber)})) as [$one, $other]
     | (($other.serial - $one.serial + 4294967296) % 4294967296) as $ahead
     | if $ahead == 0 or $ahead == 2147483648 then null
       elif $ahead < 2147483648 then {behind: $one, ahead: $other} else {behind: $other, ahead: $one} end end;
+# The name to which the query of an entry is led before two servers differ; null if it is the query's own.
+def led_to: if .parted[0].name == .parted[1].name and .parted[0].name != .query then .parted[0].name else null end;
+def in_order($one; $other): if $one <= $other then "\($one)\t\($other)" else "\($other)\t\($one)" end;
+def paired: if .place.name then .parted as [$one, $other] | . + {lag: lag, led: led_to, servers: in_order($one.server; $other.server),
+  pair: in_order("\($one.server) \($one.zone)"; "\($other.server) \($other.zone)")} else . end;
 # The server that is behind for each pair of servers and zones; and the pairs of servers with whom the same is so in more than three zones.
-def lags: map(select(.place.name) | lag as $lag | select($lag) | [.pair, $lag.behind.server]) | reverse | keyed;
+def lags: map(select(.lag) | [.pair, .lag.behind.server]) | reverse | keyed;
 def many($lags): map(select(.place.name and .parted[0].zone == .parted[1].zone) | ["\(.servers)\t\($lags[.pair])", .pair]) | unique
   | group_by(.[0]) | map(select(length > 3) | [.[0][0], true]) | keyed;
 # The least cut of the circle to which a name server leads: the nearest cut at or above its name, a server of that, and
@@ -103,35 +107,33 @@ def mend($lag): .[0] as $first | $first.parted as $parted
     elif aliases > 1 and (map(rewrite.to) | unique | length) > 1 then "correct the targets, or add records for them"
     else kinds[$first.kind].mend end;
 
-# The name to which the query of an entry is led before two servers differ; null if it is the query's own.
-def led_to: if .parted and .parted[0].name == .parted[1].name and .parted[0].name != .query then .parted[0].name else null end;
 # Of the findings of a cause what says most comes first.
 def rank: if .kind == "alias-differs" then 0 elif .kind == "unreached-row" then 2
   elif .kind == "delegation-differs" or .from == "delegations" then 3 else 1 end;
 # The same difference of two servers in more than three zones is one cause, with a line for each zone: the findings of one.
-def line_of_zone: .[0].zone as $zone | (first(.[] | lag | values) // null) as $lag
+def line_of_zone: .[0].zone as $zone | (first(.[].lag | values) // null) as $lag
   | {kind: null, subject: $zone, details: (if $lag then ": serial \($lag.behind.serial), not \($lag.ahead.serial)" else "" end
-    + (group_by(led_to // subject) | sort_by(.[0].entry)
-      | map(select($lag == null or .[0].place.name != $zone) | "\(.[0] | led_to // subject) (\(map(.type) | distinct | join(" ")))")
+    + (group_by(.led // subject) | sort_by(.[0].entry)
+      | map(select($lag == null or .[0].place.name != $zone) | "\(.[0] | .led // subject) (\(map(.type) | distinct | join(" ")))")
       | if . == [] then "" else "\(if $lag then "; besides" else ":" end) \(.[:20] | join(", "))\(length - 20 | if . > 0 then " and \(.) more names" else "" end)" end))};
-# The places of a cause, each with its witness, what is said of it, the names that lead there, and the servers with
-# files and lines. Servers that differ stand in the headline: here with files and lines alone.
-def places: group_by([.kind, led_to // subject]) | sort_by(.[0] | rank, .entry)
-  | map(.[0].zone as $zone | ([.[].at[]] | nearest) as $at | (map(select(led_to == null)) | if . == [] then null else . end) as $own
-    | {kind: .[0].kind, subject: (if $own then $own[0] | subject else .[0] | led_to end), level: .[0].level, zone: $zone,
-       key: .[0].key, first: witness, told: (witness | if .walks then told | map(shortened) else [] end), at: ($at | distinct),
-       says: (if .[0].place.name then $own // . | map(.type) | distinct | if length == 12 then ["all types"] else . end
-         elif .[0].columns then [.[0] | filled("says") | values] else [] end),
-       leading: (map(select(led_to) | subject) | distinct), above: .[0].above, below: .[0].below, sites: ($at | sites($zone))}
-    | if .says != [] and all(.sites[]; .lines == []) then .sites = [] else . end);
 # What stands behind a place's subject: what is said of it, its servers, the names that lead there, and what differs between two zones.
-def details: if .says == [] then "" else ": \(.says | join(" "))" end + if .sites == [] then "" else ", on " +
-  (.sites | map(.at + if .lines == [] then "" else " (\(.lines | join(", ")))" end) | join(", ")) end
+def details: if .says == [] then "" else ": " + (.says | joined(" ")) end + if .sites == [] then "" else ", on " +
+  (.sites | map(.at + if .lines == [] then "" else " (" + (.lines | joined(", ")) + ")" end) | joined(", ")) end
   + (.leading // [] | if . == [] then "" else "; also \(.[:20] | join(", "))\(length - 20 | if . > 0 then " and \(.) more" else "" end), which lead there" end)
   + (if (.above // []) == [] or .below == [] then "" else "; above \(.above | join(" ")), in the zone itself \(.below | join(" "))" end);
 
+# The places of a cause, each with its witness, what is said of it, the names that lead there, and the servers with
+# files and lines. Servers that differ stand in the headline: here with files and lines alone.
+def places: group_by([.kind, .led // subject]) | sort_by(.[0] | rank, .entry)
+  | map(.[0].zone as $zone | ([.[].at[]] | nearest) as $at | (map(select(.led == null)) | if . == [] then null else . end) as $own
+    | {kind: .[0].kind, subject: (if $own then $own[0] | subject else .[0].led end), level: .[0].level, zone: $zone,
+       key: .[0].key, first: witness, told: (witness | if .walks then told | map(shortened | map(.who + ": " + .says)) else [] end), at: ($at | distinct),
+       says: (if .[0].place.name then $own // . | map(.type) | distinct | if length == 12 then ["all types"] else . end
+         elif .[0].columns then [.[0] | filled("says") | values] else [] end),
+       leading: (map(select(.led) | subject) | distinct), above: .[0].above, below: .[0].below, sites: ($at | sites($zone))}
+    | if .says != [] and all(.sites[]; .lines == []) then .sites = [] else . end | . + {details: details});
 # A cause of findings that share it.
-def made_cause: sort_by(rank, .entry) | (first(.[] | lag | values) // null) as $lag | witness as $witness | (map(.zone) | unique) as $zones
+def made_cause: sort_by(rank, .entry) | (first(.[].lag | values) // null) as $lag | witness as $witness | (map(.zone) | unique) as $zones
   | {zone: .[0].zone, server: .[0].at[0].server, entry: .[0].entry, from: .[0].from,
     level: (map(.level) | if index("error") then "error" elif index("warning") then "warning" else "note" end),
     zones: $zones, asked: ($witness | asked), walks: (if $witness.walks then $witness | told else [] end),
@@ -144,7 +146,7 @@ def of_copies: if .kinds == ["copy-differs"] and (.zones | length) > 3 then .hea
     [.places[].first.columns.of // "the first row"] | unique | join(", "))" else . end;
 # What is listed below the headline of a cause: its places in words.
 def listing: if .listed then . else (.kinds | length > 1) as $several
-  | .listed = (.places | map({subject, details: details, kind: (if $several then .kind else null end)})) end;
+  | .listed = (.places | map({subject, details, kind: (if $several then .kind else null end)})) end;
 
 # The parts of a report, in order, and that of a cause.
 def parts: ["What queries find", (lists | [.[].part | values] | distinct[])];
@@ -152,7 +154,7 @@ def part: if .from == "check" then 0 else .from as $from | parts | index(lists[$
 def severity: {error: 0, warning: 1, note: 2}[.level];
 
 # All causes of the findings that aren't known, by part, zone and server; those of several zones come first.
-def causes: .findings | map(select(.known | not) | paired) | known as $known
+def causes: .findings | map(select(.known | not) | paired) | files_shown | known as $known
   | group_by(cause($known)) | map(made_cause | of_copies | listing
     | (.zones | length > 1) as $several
     | . + {section: (if $several then "\(.zones | length) zones" else "zone \(.zone)" end),

@@ -20,7 +20,7 @@ def zone: .place.zone // parted[0].zone;
 
 # A step in words: what comes of asking a server.
 def says: if .did == "refer" then "refers \(.cut) to \(.ns)"
-  elif .did == "answer" then "answers \(.rdata // [] | join(", "))"
+  elif .did == "answer" then "answers " + (.rdata // [] | if length == 1 then .[0] else join(", ") end)
   elif .did == "cname" then "CNAME\(if .owner == .name then "" else " of \(.owner)" end) to \(.to)"
   elif .did == "nxdomain" then "has no name \(.name)"
   elif .did == "nodata" then "has no such data at \(.name)"

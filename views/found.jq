@@ -3,7 +3,8 @@
 # mend, and key, which tells it from others in every run. One of a report has its entry, query, type and walks besides, and the
 # steps at which two walks part; one of a list has `columns`, those of its line by their names. `$given` has the lists of groot-map, each as text
 # or absent; and perhaps `old`, an array of an older file of findings or report; `off`, kinds that are left out, with a space between;
-# `outside`, a server's name that was made up; `about` and `version`, which say what was checked and by which groot.
+# `outside`, a server's name that was made up; `about` and `version`, which say what was checked and by which groot; and `plain`, which is `yes` if no text needs to be looked
+# through for what a terminal obeys.
 include "names" {search: "./"};
 include "entries" {search: "./"};
 include "places" {search: "./"};
@@ -11,9 +12,9 @@ include "kinds" {search: "./"};
 include "lists" {search: "./"};
 
 def level: if .kind == "blackhole" and (rewrite.did == "dname" or (.place.owner | is_reverse)) then "note" else kinds[.kind].level end;
-# What was found at its place: the first of the locations has its file and line.
-def placed($records): (if .kind | IN("delegation-differs", "glue-differs") then both_sets($records) else null end) as $sets
-  | .at[0] as $first | . + {file: $first.file, line: $first.line} + if $sets then {above: $sets[0], below: $sets[1]} else {} end;
+# What was found at locations: the first of them has its file and line.
+def placed($records; $at): . + {at: $at, file: $at[0].file, line: $at[0].line}
+  | if .kind == "delegation-differs" or .kind == "glue-differs" then both_sets($records) as $sets | . + {above: $sets[0], below: $sets[1]} else . end;
 
 # The entries of a report as findings, but for where they stand.
 def found_by_check: [entries[] | (if .place.name then .parted = parting else . end) | {kind, level: level, from: "check", zone: zone, place,
@@ -53,7 +54,7 @@ def stands: {server, zone} + if .file == "" or .file == null then {file: null, l
 def tells: if .from == "check" then
     (.place | select(.ns) | "\(.cut)\t\(.ns)") as $there | "\(.kind)\t\($there)", "row\t\($there)", if .kind == "no-address" then "dead\t\(.place.ns)" else empty end
   else empty end,
-  if .kind == "answers-differ" then .walks[][-1] | select(.zone) | "copy\t\(.server)\t\(.zone)"
+  if .kind == "answers-differ" then .walks[][-1] | select(.zone) | "copy\t" + .server + "\t" + .zone
   elif .kind == "target-without-address" and .place.type == "NS" then "no-address\t\(.place.owner)\t\(.place.target)", "dead\t\(.place.target)"
   elif .kind == "dead-name-server" and .from == "delegations" then "dead\t\(.place.ns)" else empty end;
 def is_told($told): if .from == "delegations" then $told["\(if .kind == "dead-name-server" then "no-address" else .kind end)\t\(.place.cut)\t\(.place.ns)"]
@@ -72,17 +73,17 @@ def made($given): . as $report | ($given.off // "" | split(" ") | map(select(. !
   | ($entries + ($lines | map(select(is_told($told) | not)))) as $all
   | by_place($given; $all | names_wanted) as $records | runs($given) as $runs
   | ($given.old | old_keys) as $old | ($old // [] | map([., true]) | keyed) as $is_old
-  | ($all | map(select(.kind | IN($off[]) | not) | . as $one | (if .from == "check" then .at = locations($records)
-      else .at = [.columns | stands | traced($runs)] end) | placed($records)
-    | if $is_old[.key] then .known = true else . end)) as $findings
-  | ($findings | map([.key, true]) | keyed) as $is_now
+  | ($all | if $off == [] then . else map(select(.kind | IN($off[]) | not)) end
+    | map(placed($records; if .from == "check" then locations($records) else [.columns | stands | traced($runs)] end)
+      | if $is_old[.key] then .known = true else . end)) as $findings
+  | (if $old then $findings | map([.key, true]) | keyed else null end) as $is_now
   | {names: $report.names, classes: $report.classes, rewrites: $report.rewrites, about: $given.about, version: $given.version,
      off: ($off | map(. as $kind | {(.): ($all | map(select(.kind == $kind)) | length)}) | add // {}),
      known: (if $old then $findings | map(select(.known)) | length else $report.known end),
      gone: (if $old then $old | map(select($is_now[.] or (fromjson[0] | IN($off[])) | not)) | length else $report.gone end), findings: $findings};
 # The findings of a file of them, or made of a report.
 def findings($given): if type == "object" and (.findings | type) == "array" then . else made($given) end
-  | .findings |= all_shown | .about |= (values | shown) // null;
+  | (if $given.plain == "yes" then . else .findings |= all_shown end) | .about |= (values | shown) // null;
 # How many findings there are of each kind and zone: kinds as they come, zones in the order of their names.
 def counts: .findings | [to_entries[] | .value + {number: .key}] | group_by(.kind) | sort_by(.[0].number)
   | map(group_by(.zone | name_order)[] | {kind: .[0].kind, zone: .[0].zone, number: length});

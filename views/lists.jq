@@ -26,6 +26,8 @@ def lists:
     "words": {
       "nowhere": {"kind": "target-without-address", "cause": ["target"],
         "asked": ["queries: ", "target", " A and AAAA, which end in ", "ends"]},
+      "partly": {"kind": "target-without-address", "cause": ["target"],
+        "asked": ["queries: ", "target", " A and AAAA, which end in ", "ends"]},
       "alias": {"kind": "aliased-name-server", "cause": ["target"], "of": "NS", "asked": ["queries: ", "target", " A and AAAA"]}}},
   "aliases": {"columns": ["word", "server", "zone", "owner", "type", "file", "line", "data", "target", "asked"],
     "part": "Aliases into other zones", "place": ["server", "zone", "owner", "target"],

@@ -15,15 +15,15 @@ def traced($runs): if $runs == {} then . else . + (in_source($runs) // {}) end;
 # Of the lines of a list of records, those of the names and types `$wanted` and of wildcards, as {file, line, data} under
 # "server\tzone\towner\ttype".
 def by_place($given; $wanted): runs($given) as $runs
-  | [$given.records | rows | select($wanted["\(.[2]) \(.[3])"] or (.[2] | startswith("*.")))]
-  | group_by(.[:4]) | map(["\(.[0][0])\t\(.[0][1])\t\(.[0][2])\t\(.[0][3])", map({file: .[4], line: (.[5] | tonumber), data: .[6]} | traced($runs))]) | keyed;
+  | [$given.records | rows | select($wanted[.[2] + " " + .[3]] or (.[2] | startswith("*."))) | [.[0] + "\t" + .[1] + "\t" + .[2] + "\t" + .[3], .]]
+  | group_by(.[0]) | map([.[0][0], map(.[1] | {file: .[4], line: (.[5] | tonumber), data: .[6]} | traced($runs))]) | keyed;
 # The names with types whose records tell where findings stand, and what they say.
-def names_wanted: [.[] | .type as $type | "\(.zone) SOA", (.place | (.cut | values | "\(.) NS"), (.ns | values | "\(.) A", "\(.) AAAA"), (.owner | values | "\(.) CNAME", "\(.) DNAME")),
-  (.parted // empty | .[] | "\(.zone) SOA", if .cut then "\(.cut) NS" elif .to then "\(.owner) CNAME", "\(.owner) DNAME" else "\(.name) \($type)" end)
+def names_wanted: [.[] | .type as $type | .zone + " SOA", (.place | (.cut | values | . + " NS"), (.ns | values | . + " A", . + " AAAA"), (.owner | values | . + " CNAME", . + " DNAME")),
+  (.parted // empty | .[] | .zone + " SOA", if .cut then .cut + " NS" elif .to then .owner + " CNAME", .owner + " DNAME" else .name + " " + $type end)
   | [., true]] | keyed;
 # The records of a server's zone with one of the types, of the first owner that has any; else, aside, its SOA record.
-def located($records; owners; $types; $ns): .server as $server | .zone as $zone | "\($server)\t\($zone)\t" as $head
-  | def of($owner; $types): [$types[] as $type | $records["\($head)\($owner)\t\($type)"] // empty | .[]
+def located($records; owners; $types; $ns): .server as $server | .zone as $zone | ($server + "\t" + $zone + "\t") as $head
+  | def of($owner; $types): [$types[] as $type | $records[$head + $owner + "\t" + $type] // empty | .[]
       | select($type != "NS" or $ns == null or .data == $ns)];
     first((of(owners; $types) | select(. != []) | map({server: $server, zone: $zone, file, line})),
       (of($zone; ["SOA"]) | select(. != []) | map({server: $server, zone: $zone, file, line, aside: true})), [{server: $server, zone: $zone, file: null, line: null}]);
@@ -40,10 +40,12 @@ def locations($records): . as $entry | .place
 # Locations without those aside, if their server has another one.
 def nearest: if all(.[]; .aside != true) then . else . as $all
   | map(. as $one | select(.aside != true or all($all[]; .aside or [.server, .zone] != ($one | [.server, .zone])))) end;
+# Findings whose places have the names of their files as they are shown, as `shown`, if any is shown in another way than it is.
+def files_shown: if map(.at[].file) | is_plain then . else map(.at |= map(. + {shown: (.file // "" | shown)})) end;
 # The servers of locations, each with its files and lines. A server's zone is said if it isn't `$zone`.
 def sites($zone): group_by([.server, .zone]) | map({
     at: (.[0] | .server + if .zone == $zone then "" else " zone \(.zone)" end),
-    lines: (map(select(.file) | [.file, .line]) | unique | map("\(.[0]):\(.[1])" | shown))});
+    lines: (if length == 1 then map(select(.file)) else map(select(.file)) | unique_by([.shown // .file, .line]) end | map((.shown // .file) + ":" + (.line | tostring)))});
 
 # The data of records of a server's zone.
 def data_at($records; $server; $zone; $owner; $types):

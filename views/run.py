@@ -65,7 +65,7 @@ def view(name: str, folder: str, more: Tuple[str, ...] = ()) -> Tuple[int, str, 
             words += ["--rawfile", given, f"{given}.tsv"]
     if os.path.exists(os.path.join(folder, "old.json")):
         words += ["--slurpfile", "old", "old.json"]
-    ended = subprocess.run(["jq", "-cf" if name in ("new", "all", "findings") else "-rf", os.path.join(HERE, f"{name}.jq"), *words, report_of(folder)],
+    ended = subprocess.run(["jq", {"new": "-cf", "findings": "-cf", "all": "-rcf"}.get(name, "-rf"), os.path.join(HERE, f"{name}.jq"), *words, report_of(folder)],
                            cwd=folder, stdin=subprocess.DEVNULL, capture_output=True)
     return ended.returncode, ended.stdout.decode(), ended.stderr.decode()
 
@@ -287,10 +287,12 @@ def faults_of_all(folder: str) -> Iterator[str]:
     if status:
         yield f"all: status {status}: {error}"
         return
-    made = dict(json.loads(line) for line in text.removesuffix("\n").split("\n"))
-    if list(made) != ALL:
+    made = {name: lines for name, _, lines in (part.partition("\n") for part in text.split("\x1e")[1:])}
+    if list(made) != ALL or not text.startswith("\x1e"):
         yield f"all: it makes {list(made)}"
-    if made.pop("new") != str(len([one for one in json.loads(made["findings"])["findings"] if not one.get("known")])):
+        return
+    new = [one for one in json.loads(made["findings"])["findings"] if not one.get("known")]
+    if made.pop("new") != f"{len(new)}\n":
         yield "all: it counts wrong"
     for name in made:
         alone = view(name, folder)[1]

@@ -61,7 +61,7 @@ def run(command: Sequence[str], out: Optional[IO[bytes]] = None) -> Tuple[int, L
                 end(child)
                 raise
         said.seek(0)
-        lines = said.read().decode("utf-8", "surrogateescape").splitlines()
+        lines = [line.decode("utf-8", "surrogateescape") for line in said.read().splitlines()]
     return (status if status >= 0 else 128 - status), lines
 
 

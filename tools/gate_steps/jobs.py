@@ -72,7 +72,7 @@ def ended(running: Dict[str, Running], begun: float) -> Dict[str, Done]:
             del running[name]
             one.out.seek(0)
             one.said.seek(0)
-            said = one.said.read().decode("utf-8", "surrogateescape").splitlines()
+            said = [line.decode("utf-8", "surrogateescape") for line in one.said.read().splitlines()]
             found[name] = Done(status if status >= 0 else 128 - status, said, one.out)
     return found
 

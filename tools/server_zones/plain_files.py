@@ -51,7 +51,7 @@ def made_of(zones: List[Zone], kept: made_files.Folder, models: Dict[str, Zone])
         try:
             return flattened(zone, kept, models.get(zone.name))
         except NoMetadata as fault:
-            return ": ".join([str(fault), *fault.said.splitlines()[:MOST_SAID]])
+            return ": ".join([str(fault), *list(filter(None, fault.said.split("\n")))[:MOST_SAID]])
         except OSError as fault:
             return f"{fault.filename}: {fault.strerror}"
 

@@ -39,7 +39,7 @@ def checked(rtype: bytes, text: bytes, origin: str) -> bytes:
     """What BIND's tool prints of a record's type and data by number."""
     tool = shutil.which(TOOL)
     if not tool:
-        raise NotWritten(f"{TOOL}, which writes it by number, isn't installed (Debian: bind9-utils)")
+        raise NotWritten(f"{TOOL}, which writes it by number, isn't installed (Debian: bind9)")
     run = subprocess.run([tool, "-u", "-o", origin], input=b"IN %s %s\n" % (rtype, text), stdout=subprocess.PIPE,
                          stderr=subprocess.STDOUT, check=False)
     words = run.stdout.split()
