@@ -1,8 +1,9 @@
 #!/usr/bin/env python3
-"""Tries ./install in scratch folders: installed.py PROGRAM [MAP [LARGE]].
+"""Tries ./install in scratch folders: installed.py PROGRAM [MAP [LARGE [PARTS]]].
 
 What it installs runs and reads, and a removal leaves no file, also after an install that failed on the way. No file of others is
-replaced. MAP is groot-map; without it, that on the path. LARGE is groot-large; without it, PROGRAM stands in for it. With dpkg and dpkg-deb the Debian package is installed and removed in a
+replaced. MAP is groot-map; without it, that on the path. LARGE is groot-large, and PARTS groot-parts; without one, PROGRAM
+stands in for it. With dpkg and dpkg-deb the Debian package is installed and removed in a
 scratch root; with lintian, mandoc, zsh and systemd-analyze it, the manual pages, the completion for zsh and the units are looked
 through; what isn't there is said. The status is 0 if all holds.
 """
@@ -18,7 +19,7 @@ from typing import Dict, List, Optional, Sequence, Union
 
 TOP = pathlib.Path(__file__).resolve().parent.parent
 BASH = "bash"
-PROGRAMS = ("groot", "groot-map", "groot-large", "groot-metadata", "groot-gate", "groot-changed", "groot-changes")
+PROGRAMS = ("groot", "groot-map", "groot-large", "groot-parts", "groot-metadata", "groot-gate", "groot-changed", "groot-changes")
 Word = Union[str, pathlib.Path]
 
 
@@ -27,7 +28,8 @@ def main() -> None:
     program, groot_map = sys.argv[1], sys.argv[2] if len(sys.argv) > 2 else shutil.which("groot-map")
     if not groot_map:
         sys.exit("./install: needs groot-map on the path, or as the second word (./build makes it)")
-    options = ["--program", program, "--map", groot_map, "--large", sys.argv[3] if len(sys.argv) > 3 else program]
+    large, parts = (sys.argv[place] if len(sys.argv) > place else program for place in (3, 4))
+    options = ["--program", program, "--map", groot_map, "--large", large, "--parts", parts]
     with tempfile.TemporaryDirectory() as name:
         scratch = pathlib.Path(name)
         faults = plain(options, scratch / "plain") + staged(options, scratch) + of_others(options, scratch / "others")
@@ -62,17 +64,18 @@ def wanted(what: str, command: Sequence[Word], status: int = 0, says: str = "", 
 
 def runs(prefix: pathlib.Path) -> List[str]:
     """Whether what is installed under a prefix runs and reads."""
-    helps = [fault for name in PROGRAMS[3:] for fault in wanted(f"{name} gives its help", [prefix / "bin" / name, "--help"])]
+    helps = [fault for name in PROGRAMS[4:] for fault in wanted(f"{name} gives its help", [prefix / "bin" / name, "--help"])]
     return (
         helps
         + wanted("the program gives its usage", [prefix / "bin/groot"], 2)
         + wanted("groot-map gives its usage", [prefix / "bin/groot-map"], 2)
         + wanted("groot-large gives its usage", [prefix / "bin/groot-large"], 2)
+        + wanted("groot-parts gives its usage", [prefix / "bin/groot-parts"], 2)
         + wanted("bash reads the completion", [BASH, "-n", prefix / "share/bash-completion/completions/groot"])
         + [fault for name in PROGRAMS for fault in untold(prefix, name)]
         + completed_in_zsh(prefix)
         + of_the_units(prefix)
-        + [f"{name} has another version" for name in PROGRAMS[3:]
+        + [f"{name} has another version" for name in PROGRAMS[4:]
            if output([prefix / "bin" / name, "--version"]) != f"{name} {(prefix / 'share/groot/version').read_text()}"]
     )
 
@@ -103,10 +106,12 @@ def untold(prefix: pathlib.Path, name: str) -> List[str]:
 
 def words_of(prefix: pathlib.Path, name: str) -> List[str]:
     """The commands and options of a program: of a script those of its help, of another program those of its usage line."""
-    if name in PROGRAMS[3:]:
+    if name in PROGRAMS[4:]:
         text = output([prefix / "bin" / name, "--help"])
         return sorted(set(re.findall(r"(?<![\w-])--[a-z][a-z-]*", text)))
     usage = subprocess.run([str(prefix / "bin" / name)], stdin=subprocess.DEVNULL, capture_output=True, text=True, check=False).stderr
+    if name == "groot-parts" and not usage.startswith("usage: groot-parts "):
+        return []  # another program stands in for it
     return sorted(set(re.findall(r"--[a-z]+", usage)) | set(re.findall(rf"(?:usage: {name}(?:-[a-z]+)? |\| )([a-z]+)", usage)))
 
 
@@ -130,7 +135,7 @@ def completed_in_zsh(prefix: pathlib.Path) -> List[str]:
     if not shutil.which("zsh"):
         return []
     faults = []
-    for service, line, wish in (("groot-map", "groot-map", "servers"), ("groot", "groot ask meta", "CAA"), ("groot", "groot check", "--classes"),
+    for service, line, wish in (("groot-map", "groot-map", "servers"), ("groot-parts", "groot-parts", "merge"), ("groot", "groot ask meta", "CAA"), ("groot", "groot check", "--classes"),
                                 ("groot-large", "groot-large scope", "metadata"), ("groot-gate", "groot-gate", "--published"),
                                 ("groot-metadata", "groot-metadata", "--catalog"), ("groot-changed", "groot-changed", "--since"),
                                 ("groot-changes", "groot-changes", "--below")):

@@ -303,7 +303,7 @@ rm -f "$scratch/runner/said"
 printf '#!/bin/sh\necho "rm $*" >>"%s/runner/said"\n' "$scratch" >"$scratch/runner/rm"
 chmod +x "$scratch/runner/rm"
 expect 0 "the lines of the image" env PATH="$scratch/runner:$PATH" sh -e "$scratch/image.sh"
-for package in bind9-dnsutils bind9-utils git jq knot nsd python3 /tmp/groot.deb; do
+for package in bind9 bind9-dnsutils bind9-utils git jq knot nsd python3 /tmp/groot.deb; do
     grep -q "apt-get install .* $package\( \|$\)" "$scratch/runner/said" || fault "the image has no $package"
 done
 rm "$scratch/runner/rm"

@@ -178,7 +178,7 @@ class Sources:
     def reached(self):
         """What the `main` of each program reaches, what the tests name, and what those reach of it to which no `main` comes."""
         named = {other for test in self.functions if "tests" in test.file.words for other in self.named_by(test)}
-        mains = [function for function in self.by_name["main"] if function.file.crate in ("groot", "groot_map")]
+        mains = [function for function in self.by_name["main"] if function.file.crate in ("groot", "groot_map", "groot_parts")]
         met = self.followed(mains, set())
         reached = self.followed(named - met, set(met)) | named
         handed = {(function.home[1], function.name) for function in reached}

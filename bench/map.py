@@ -1,5 +1,5 @@
 #!/usr/bin/env python3
-"""Measures groot-map beside `check` of the same files: map.py [GROOT] [GROOT-MAP] [--runs N] [--tenth] [--only WORD]
+"""Measures groot-map beside `check` of the same files: map.py [GROOT] [GROOT-MAP] [--runs N] [--tenth] [--only WORD] [--instructions]
 
 GROOT and GROOT-MAP are the built programs, crates/groot/out/groot and crates/groot_map/out/groot_map if none are given. It
 makes
@@ -10,18 +10,22 @@ makes
 
 For each it prints the lines of a table: the processor seconds and the peak memory in MiB of `check` with one worker, and
 those of each word of groot-map with their ratios to those of `check`. Each is the best of --runs runs, 5 if none are given.
-With --tenth all inputs are a tenth as large; with --only those alone whose title has the word. At most the time and the memory
-of `check` are wanted of each word for all inputs but the last.
+With --instructions it prints a row for each input instead: the millions of instructions of `check`, and of each word the ratio
+of its instructions to those, of one run each, which are the same under every load; that needs valgrind. With --tenth all inputs
+are a tenth as large; with --only those alone whose title has the word. At most the time and the memory of `check` are wanted of
+each word for all inputs but the last.
 """
 import argparse
 import os
+import re
+import subprocess
 import tempfile
 
 import make_zone
 from measure import GROOT, RUNS, TOP, measured, metadata, program, ratio
 
 GROOT_MAP = os.path.join(TOP, "crates", "groot_map", "out", "groot_map")
-ASKED = ["records", "reached", "targets", "delegations", "copies", "servers", "aliases"]
+ASKED = ["records", "reached", "targets", "delegations", "copies", "servers", "aliases", "chain"]
 
 
 def registry(count, folder):
@@ -61,9 +65,31 @@ def known(title, taken):
     return taken
 
 
+def check_words(groot, meta):
+    """The words of a check of this metadata file, with one worker."""
+    return [groot, "check", meta, "--workers", "1", "--classes", "1000000"]
+
+
+def counted(words, folder):
+    """The instructions of one run."""
+    profile = os.path.join(folder, "profile")
+    ran = subprocess.run(["valgrind", "--tool=callgrind", f"--callgrind-out-file={profile}", *words], stdin=subprocess.DEVNULL, capture_output=True, text=True)
+    told = re.search(r"Collected : (\d+)", ran.stderr)
+    if ran.returncode not in (0, 1) or not told:
+        raise SystemExit(f"{' '.join(words)}: it ended with {ran.returncode}\n{ran.stderr[-400:]}")
+    return int(told[1])
+
+
+def count_one(groot, groot_map, title, meta, folder):
+    """Counts the instructions of `check` and of each word, and prints a row."""
+    check = counted(check_words(groot, meta), folder)
+    ratios = [f"{counted([groot_map, asked, meta], folder) / check:.2f}" for asked in ASKED]
+    print(f"| {title} | {check / 1e6:.1f} | {' | '.join(ratios)} |", flush=True)
+
+
 def measure_one(groot, groot_map, title, meta, runs):
     """Measures `check` and each word, and prints what they take."""
-    check = known(title, measured([groot, "check", meta, "--workers", "1", "--classes", "1000000"], (0, 1), runs))
+    check = known(title, measured(check_words(groot, meta), (0, 1), runs))
     print(f"| {title} | `check` | {check.processor:.3f} | | {check.memory:.0f} | |", flush=True)
     for asked in ASKED:
         own = known(title, measured([groot_map, asked, meta], (0, 1), runs))
@@ -78,15 +104,23 @@ def main():
     words.add_argument("--runs", type=int, default=RUNS)
     words.add_argument("--tenth", action="store_true")
     words.add_argument("--only", default="")
+    words.add_argument("--instructions", action="store_true")
     said = words.parse_args()
     groot, groot_map = program(said.groot), program(said.groot_map)
-    print("| Input | Word | Seconds | ratio | MiB | ratio |\n|---|---|---|---|---|---|")
+    if said.instructions:
+        print(f"| Input | `check`, millions | {' | '.join(f'`{asked}`' for asked in ASKED)} |\n|{'---|' * (len(ASKED) + 2)}")
+    else:
+        print("| Input | Word | Seconds | ratio | MiB | ratio |\n|---|---|---|---|---|---|")
     for title, make, size in INPUTS:
         count = size // 10 if said.tenth else size
         if said.only in title:
             with tempfile.TemporaryDirectory() as folder:
                 rows, tops = make(count, folder)
-                measure_one(groot, groot_map, title.format(count), metadata(folder, rows, *tops), said.runs)
+                meta = metadata(folder, rows, *tops)
+                if said.instructions:
+                    count_one(groot, groot_map, title.format(count), meta, folder)
+                else:
+                    measure_one(groot, groot_map, title.format(count), meta, said.runs)
 
 
 if __name__ == "__main__":

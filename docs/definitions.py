@@ -26,6 +26,8 @@ import lemmas
 
 TOP = os.path.dirname(os.path.dirname(os.path.abspath(__file__)))
 TOP_CALL = ("groot_run", "run.rt", "groot_with_sites")
+# the parts of the headline, as docs/BELIEVE.md has them
+PARTS = ("HasFaults", "HasEntries", "IsWritten")
 DEFINED = re.compile(r"(?:abbrev |unfoldable )?pub (?:record |data )?([^\s:({]+)")
 TYPE = re.compile(r"pub(?:\([a-z]+\))? (struct|enum|trait|type) (\w+)")
 IMPORT = re.compile(r"^(?:ghost |pub )?use Rattle\.(\w+)\.specs\.([\w.]+?)(?:\.\{(.*)\})?(?: as (\w+))?;?$")
@@ -310,7 +312,7 @@ def page(clause):
     yield ("Most definitions compute a truth value, a list, an option or a text. The others are relations; their names begin "
            "with a capital letter, mostly with `Is` or `Are`. Types of the code are seen as plain values: octets as numbers below "
            "256, a text as a list of octets, a name as a list of labels with the top label first. Examples of definitions are "
-           "theorems in `proofs/Worked` and `proofs/Drawn` of net_model, rdata_forms and master_read.")
+           "theorems in `proofs/Worked` and `proofs/Drawn` of net_model, plain_words, rdata_forms and master_read.")
     yield ""
     yield ("What other clauses say is found in the same way (`docs/definitions.py --of complete` has all commands), and "
            "`docs/definitions.py WORD` finds any definition by a word.")
@@ -345,8 +347,18 @@ def renewed():
     """The two pages as they have to be."""
     return {
         "DEFINITIONS.md": "\n".join(page("headline")) + "\n",
-        "BELIEVE.md": re.sub(r"\d+ definitions and .* crates(?= \()", count("headline"), text_of("BELIEVE.md")),
+        "BELIEVE.md": with_parts(re.sub(r"\d+ definitions and .* crates(?= \()", count("headline"), text_of("BELIEVE.md"))),
     }
+
+
+def with_parts(text):
+    """The page with how many lines each part of the headline adds to those on which the parts above it rest."""
+    seen = set()
+    for name in PARTS:
+        found = set(definition_rests_on(name)) - seen
+        seen |= found
+        text = re.sub(rf"(\| `{name}` \|.*\| )[^|]*( \|)$", rf"\g<1>{sum(map(number_of_lines, found)):,}\2", text, flags=re.M)
+    return text
 
 
 def renew():
