@@ -1,5 +1,5 @@
--- The turns of a graph's branches, and the nodes that lead to an address while certain servers are followed. The contracts of
--- inner calls alone cite it.
+-- The turns of a graph's branches, and the nodes that lead to an address while certain servers are followed. The contracts
+-- of inner calls alone cite it.
 use Rattle.std.specs.Prelude.{◌≡◌, ℕ, Bool, true, false, ◌&&◌, List, slice_get, Some}
 use Rattle.std.specs.List.{AllZip, list_any, sum_by}
 use Rattle.std.specs.Option.{option_map_or}

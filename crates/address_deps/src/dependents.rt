@@ -19,8 +19,8 @@ pub(crate) struct Dependents {
 }
 
 impl Dependents {
-    /// Who waits for each name server's address, by what tells whether the servers' own are learnt. Each turn is passed over
-    /// once.
+    /// Who waits for each name server's address, by what tells whether the servers' own are learnt. Each turn is passed
+    /// over once.
     pub(crate) fn of(alloc: Global, told: &[AddressTold<'_>]) -> Result<Dependents, NoMemory>
         ensures { IfOk result (λ dependents. AreDependents told.now (length told.now) dependents.places) }
     {

@@ -166,5 +166,5 @@ fn name_at<'a>(hosts: &Hosts<'a>, place: usize) -> &'a Name
     requires { place < length hosts.now.servers }
     ensures { (server : Server) → slice_get hosts.now.servers place ≡ Some server → result.now ≡ server.name }
 {
-    &hosts.config().servers.items()[place].name
+    &hosts.config().servers()[place].name
 }

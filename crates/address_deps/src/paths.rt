@@ -19,8 +19,8 @@ use net_model::Hop;
 use std::alloc::Global;
 use zone_lookup::{Hosts, gives_address};
 
-/// What the graph of a server's name, made while every configured server is followed, tells of its address. Where none needs
-/// to be followed, or it isn't learnt though all are, nothing else is kept; nor is the graph needed any more.
+/// What the graph of a server's name, made while every configured server is followed, tells of its address. Where none
+/// needs to be followed, or it isn't learnt though all are, nothing else is kept; nor is the graph needed any more.
 pub fn told_by<'a>(
     alloc: Global,
     hosts: &Hosts<'a>,

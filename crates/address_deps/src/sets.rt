@@ -89,7 +89,7 @@ fn all_servers(alloc: Global, hosts: &Hosts<'_>) -> Result<ServerSet, NoMemory>
     ensures { IfOk result (λ all. (name : Labels) → is_among all name ≡ is_among (server_names hosts.now) name) }
 {
     let mut all = ServerSet::new(alloc);
-    for server in hosts.config().servers.items() {
+    for server in hosts.config().servers() {
         all.put(alloc, &server.name)?;
     }
     Ok(all)
@@ -100,7 +100,7 @@ fn in_order(alloc: Global, hosts: &Hosts<'_>, set: &ServerSet) -> Result<List<Na
     ensures { IfOk result (λ names. names ≡ filter (is_among set.now) (server_names hosts.now)) }
 {
     let mut names = List::new(alloc);
-    for server in hosts.config().servers.items() {
+    for server in hosts.config().servers() {
         if set.has(&server.name) {
             names.push(server.name.copy(alloc)?)?;
         }

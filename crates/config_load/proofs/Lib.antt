@@ -1,4 +1,5 @@
 pub mod Answered
+pub mod ConsistentServers
 pub mod Directories
 pub mod Follows
 pub mod OpenedFiles

@@ -1,4 +1,5 @@
--- The name of a file, as lines for people show it: a control character in it can't begin a line of its own or steer a terminal.
+-- The name of a file, as lines for people show it: a control character in it can't begin a line of its own or steer a
+-- terminal.
 use Rattle.std.specs.Prelude.{ℕ, Bool, ◌||◌, nat_lt, List, [], ◌∷◌, codes, if◌then◌else◌, ◌==◌}
 use Rattle.std.specs.List.{flat_map}
 use Rattle.dns_data.specs.Octet.{decimal_escape}

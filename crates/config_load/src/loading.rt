@@ -131,10 +131,11 @@ fn read_loaded<F: Files>(
 {
     let found = read_meta(alloc, limits, files, meta)?;
     let rows = read_rows(alloc, limits, files, meta, found.rows.items())?;
+    let servers = rows.servers.into_list();
     Ok(Loaded {
         config: Config {
             tops: found.tops,
-            servers: rows.servers.into_list(),
+            servers,
         },
         rows: rows.rows,
     })

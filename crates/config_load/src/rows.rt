@@ -2,6 +2,7 @@
 
 ghost use Rattle.std.specs.Prelude.{◌≤◌, length};
 ghost use Rattle.dns_data.specs.Answers.{AnswersOr};
+ghost use Rattle.net_model.specs.Configured.{KeepsWithin};
 ghost use Rattle.config_load.specs.Conf.{no_rows, with_row, with_rows};
 ghost use Rattle.config_load.specs.RowRead.{row_read};
 ghost use Rattle.config_load.specs.Sources.{HasAnswered};
@@ -72,6 +73,7 @@ fn with_read(
     read: ReadZone,
     rows: ReadRows,
 ) -> Result<ReadRows, LoadFault>
+    requires { KeepsWithin read.zone }
     ensures { AnswersOr LoadFault.NoMemory result (row_read number server.now read rows) }
 {
     let row = RowFiles {

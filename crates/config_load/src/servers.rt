@@ -4,6 +4,7 @@ ghost use Rattle.std.specs.Prelude.{◌≡◌, ◌<◌, [], ◌∷◌, ◌++◌,
 ghost use Rattle.std.specs.BTreeMap.{Updates};
 ghost use Rattle.dns_data.specs.Answers.{AnswersOr};
 ghost use Rattle.dns_data.specs.Name.{name_cmp};
+ghost use Rattle.net_model.specs.Configured.{AreConsistent, KeepsWithin};
 ghost use Rattle.config_load.specs.Hosted.{ArePlaces, with_zone_at};
 ghost use Rattle.config_load.specs.Servers.{given, with_zone};
 
@@ -25,6 +26,7 @@ pub(crate) struct Servers {
 
 impl Model for Servers {
     ghost use Rattle.std.specs.Prelude.{List};
+    ghost use Rattle.net_model.specs.Configured.{AreConsistent};
     ghost use Rattle.net_model.specs.declared.config.Server.{Server};
     ghost use Rattle.config_load.specs.Hosted.{ArePlaces, AreTellers};
 
@@ -32,11 +34,12 @@ impl Model for Servers {
 
     ghost view = { λ a. a.servers.items };
 
-    ghost invariant = { λ a. (ArePlaces a.places a.servers.items) × (AreTellers a.tellers a.servers.items) };
+    ghost invariant = { λ a. (ArePlaces a.places a.servers.items) × (AreTellers a.tellers a.servers.items) × AreConsistent a.servers.items };
 }
 
 impl Servers {
     /// No server.
+    #[tactic(auto, using(crate::proofs::ConsistentServers::none_consistent))]
     pub(crate) fn new(alloc: Global) -> Servers
         ensures { result ≡ [] }
     {
@@ -49,12 +52,14 @@ impl Servers {
 
     /// The servers, in order.
     pub(crate) fn into_list(self) -> List<Server>
-        ensures { result ≡ self }
+        ensures value { result ≡ self }
+        ensures consistent { AreConsistent result }
     {
         List::from_vec(self.servers)
     }
 
-    /// The servers with a zone more, which the row of this number gives to the server of this name.
+    /// The servers with a zone more, which the row of this number gives to the server of this name. Its records lie at or
+    /// below its origin.
     pub(crate) fn with_zone(
         self,
         alloc: Global,
@@ -62,6 +67,7 @@ impl Servers {
         name: Name,
         zone: Zone,
     ) -> Result<Servers, LoadFault>
+        requires { KeepsWithin zone }
         ensures { AnswersOr LoadFault.NoMemory result (given row name zone self) }
     {
         let Servers {

@@ -3,6 +3,7 @@
 ghost use Rattle.std.specs.Prelude.{◌≡◌, ◌⊎◌, IfOk};
 ghost use Rattle.std.specs.Option.{option_map};
 ghost use Rattle.dns_data.specs.Answers.{AnswersOr, with_fault};
+ghost use Rattle.net_model.specs.Configured.{KeepsWithin};
 ghost use Rattle.zone_rules.specs.ZoneOf.{zone_of};
 ghost use Rattle.config_load.specs.Conf.{zone_read};
 ghost use Rattle.config_load.specs.Faults.{name_numbered, of_rule};
@@ -35,7 +36,8 @@ pub(crate) fn read_zone<F: Files>(
     row: &MetaRow,
     left: Limits,
 ) -> Result<ReadZone, LoadFault>
-    ensures { HasAnswered (F.told files.old) (F.told files.new) (F.faults files.old) (F.faults files.new) (zone_read meta.now row.now left) result }
+    ensures reads { HasAnswered (F.told files.old) (F.told files.new) (F.faults files.old) (F.faults files.new) (zone_read meta.now row.now left) result }
+    ensures within { IfOk result (λ read. KeepsWithin read.zone) }
 {
     let read = read_zone_files(alloc, files, meta, row, left)?;
     let left = left.behind(read.text.seen, read.text.included);
@@ -51,8 +53,9 @@ fn checked(
     origin: Option<&Name>,
     rrs: List<Rr>,
 ) -> Result<Zone, LoadFault>
-    ensures { AnswersOr LoadFault.NoMemory result
+    ensures answers { AnswersOr LoadFault.NoMemory result
         (with_fault (of_rule names.now) (zone_of (option_map (λ name. name.now) origin.entry) rrs)) }
+    ensures within { IfOk result KeepsWithin }
 {
     match check_zone(alloc, origin, rrs) {
         Ok(zone) => Ok(zone),

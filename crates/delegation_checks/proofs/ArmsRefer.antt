@@ -1,12 +1,11 @@
 -- In the graph of a query the branches of an arm are the referrals of one zone cut, or none of them is a referral.
-use Rattle.std.proofs.Common.{◌≡◌, ◌+◌, Bool, true, false, cond, List, [], ◌∷◌, map, Option, Some, None, is_some, refl, sym, ap, ◌∙◌, subst, inl, inr}
-use Rattle.std.specs.Prelude.{◌&&◌, not, nat_lt, length, option_and_then}
+use Rattle.std.proofs.Common.{◌≡◌, ◌+◌, Bool, true, false, cond, List, [], ◌∷◌, map, Option, Some, None, refl, sym, ap, ◌∙◌, subst, inl, inr}
+use Rattle.std.specs.Prelude.{◌&&◌, not, nat_lt, length}
 use Rattle.std.specs.List.{AllByRecursion, AllZip}
 use Rattle.std.proofs.lemmas.Bool.{and_parts}
-use Rattle.dns_data.specs.Name.{Labels, name_eq, is_prefix}
+use Rattle.dns_data.specs.Name.{Labels, is_prefix}
 use Rattle.dns_data.specs.declared.rr_type.RrType.{RrType}
 use Rattle.dns_data.specs.declared.rr_type.RrType.TheVariants as types
-use Rattle.dns_data.proofs.Names.{name_eq_decides}
 use Rattle.dns_data.proofs.Searches.{found_there}
 use Rattle.graph_form.specs.Branches.{hop_of}
 use Rattle.graph_form.specs.Graph.{PlainGraph}
@@ -15,13 +14,12 @@ use Rattle.graph_form.specs.declared.node.Branch.{Branch}
 use Rattle.graph_form.specs.declared.node.Branch.TheVariants.{Go, End}
 use Rattle.graph_form.proofs.Places.{place_of_item}
 use Rattle.net_model.specs.Lookup.{ByCut, answered, deciding, dname_owner, found, zone_cut}
-use Rattle.net_model.specs.Nearest.{held_zone, is_configured, nearest, nearest_of, server_named, zone_with_origin}
-use Rattle.net_model.specs.Prefix.{longest, prefixes}
+use Rattle.net_model.specs.Nearest.{is_configured, nearest_of}
+use Rattle.net_model.specs.Prefix.{prefixes}
 use Rattle.net_model.specs.Step.{Setting, after_lookup, arrived, delegated, in_zone, may_follow, next, referred, servers_after}
 use Rattle.net_model.specs.Step as step
 use Rattle.net_model.specs.Zone.{exists_in, ns_names, owns}
 use Rattle.net_model.specs.declared.config.Config.{Config}
-use Rattle.net_model.specs.declared.config.Server.{Server}
 use Rattle.net_model.specs.declared.config.Zone.{Zone}
 use Rattle.net_model.specs.declared.found.Found.{Found}
 use Rattle.net_model.specs.declared.found.Found.TheVariants as found_as
@@ -30,29 +28,12 @@ use Rattle.net_model.specs.declared.place.Place.{Place}
 use Rattle.net_model.specs.declared.walk.Hop.{Hop}
 use Rattle.net_model.specs.declared.walk.Hop.TheVariants.{Refer, Rewrite}
 use Rattle.net_model.specs.declared.walk.State.{State}
-use Rattle.net_model.proofs.NearestZones.{nearest_tells}
+use Rattle.net_model.proofs.NearestZones.{nearest_is_held, nearest_tells}
 use Rattle.net_model.proofs.OpenTails.{owner_exists}
 use Rattle.net_model.proofs.StepBounds.{cut_refers, is_the_cut}
 use Rattle.zone_lookup.proofs.CutsInside.{cut_inside}
 use Rattle.delegation_checks.specs.Delegations.{IsGraphIn}
 use Rattle.delegation_checks.specs.Referrals.{GraphRefers, IsNoReferral, RefersByOne}
-
--- ---- the zone that refers
-
-held_from : (holder : Server) (zone : Zone) (origin : Option Labels) → option_and_then (zone_with_origin holder) origin ≡ Some zone
-    → zone_with_origin holder zone.origin ≡ Some zone
-held_from holder zone None e = cc
-held_from holder zone (Some origin) e =
-    ap (zone_with_origin holder) ((name_eq_decides zone.origin origin).0 (found_there (λ (z : Zone). name_eq z.origin origin) holder.zones zone e).1) ∙ e
-
--- the zone in which a server looks a name up is the one that it holds for the zone's origin
-nearest_is_held : (config : Config) (server name : Labels) (zone : Zone) → nearest_of config server name ≡ Some zone
-    → held_zone config server zone.origin ≡ Some zone
-nearest_is_held config server name zone e = by (server_named config server) e where
-  by : (holder : Option Server) → option_and_then (λ holder. nearest holder name) holder ≡ Some zone
-      → option_and_then (λ holder. zone_with_origin holder zone.origin) holder ≡ Some zone
-  by None e = cc
-  by (Some holder) e = held_from holder zone (longest (λ above. is_some (zone_with_origin holder above)) name) e
 
 module _ (zone : Zone) (name : Labels) (rtype : RrType) (cut : Labels) (names : List Labels) (is : found zone name rtype ≡ found_as.Referral cut names) where
   by_cut : deciding zone name ≡ ByCut cut

@@ -1,6 +1,7 @@
--- What a table of cuts tells of branches that refer by one zone cut, and the faults of arms, nodes and graphs one after the other.
+-- What a table of cuts tells of branches that refer by one zone cut, and the faults of arms, nodes and graphs one after the
+-- other.
 use Rattle.std.proofs.Common.{◌≡◌, ℕ, Bool, true, false, List, [], ◌∷◌, ◌++◌, map, Option, Some, None, refl, sym, ap, ◌∙◌, subst, inl, inr}
-use Rattle.std.specs.Prelude.{◌||◌, not, ◌⊎◌, slice_get, if◌then◌else◌}
+use Rattle.std.specs.Prelude.{◌||◌, not, slice_get, if◌then◌else◌}
 use Rattle.std.specs.List.{AllByRecursion, AllZip, find, flat_map}
 use Rattle.std.specs.Option.{IsSomeAnd, MatchOption, option_map_or}
 use Rattle.std.proofs.lemmas.Grind.{flat_map-append}
@@ -28,7 +29,7 @@ use Rattle.net_model.specs.declared.walk.Hop.{Hop}
 use Rattle.net_model.specs.declared.walk.Hop.TheVariants.{Refer, Rewrite}
 use Rattle.net_model.specs.declared.walk.State.{State}
 use Rattle.zone_lookup.specs.CutFlags.{faults_by, flags_of, is_quiet}
-use Rattle.zone_lookup.specs.CutTable.{IsToldOf, referrals_at}
+use Rattle.zone_lookup.specs.CutTable.{IsToldOf, cut_to, referrals_at}
 use Rattle.zone_lookup.specs.ReferralFaults.{cut_faults, hop_faults, if_shown, referral_faults}
 use Rattle.zone_lookup.specs.declared.cut_flags.CutFlags.{CutFlags}
 use Rattle.delegation_checks.specs.Referrals.{AreOfCut, AreTold, IsNoReferral, IsTold, RefersByOne, branch_faults, faults_told, first_cut, hop_told, typed_faults}
@@ -61,10 +62,6 @@ no_first [] none cut e = cc
 no_first (None ∷ hops) none cut e = cc
 no_first (Some (Rewrite place by_dname to) ∷ hops) none cut e = cc
 no_first (Some (Refer other) ∷ hops) none cut e = none.0
-
--- the referral of a zone cut to a name server
-abbrev cut_to : Labels → Zone → Labels → Labels → Cut
-cut_to server zone cut ns = record { server = server; zone = zone.origin; cut = cut; ns = ns }
 
 -- the referrals of a zone cut, as hops
 abbrev hops_to : Labels → Zone → Labels → List Labels → List (Option Hop)

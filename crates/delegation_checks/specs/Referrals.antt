@@ -1,5 +1,5 @@
--- The faults of the zone cuts of referrals, whatever comes behind them, and how the branches of a state refer: for the contracts
--- of inner calls alone.
+-- The faults of the zone cuts of referrals, whatever comes behind them, and how the branches of a state refer: for the
+-- contracts of inner calls alone.
 use Rattle.std.specs.Prelude.{◌≡◌, true, List, [], ◌∷◌, map, Option, Some, None, Contains, ◌⊎◌}
 use Rattle.std.specs.List.{AllByRecursion, AllZip}
 use Rattle.std.specs.Option.{option_map_or}

@@ -114,6 +114,17 @@ impl Name {
         })
     }
 
+    /// The name of the first labels, as many as asked for, or an equal name if there are fewer.
+    pub fn copy_front(&self, alloc: Global, count: usize) -> Result<Name, NoMemory>
+        ensures { IfOk result (λ name. name ≡ take count self.now) }
+    {
+        match Name::root().join_labels(alloc, &self.labels().front(count)) {
+            Ok(front) => Ok(front),
+            Err(JoinFault::NoMemory) => Err(NoMemory),
+            Err(JoinFault::TooLong) => unreachable!(),
+        }
+    }
+
     /// Puts a label below the name. After an error the name is as it was.
     #[tactic(auto, using(crate::proofs::Encodings::flat_length, crate::proofs::Encodings::flat_push))]
     pub fn push(&mut self, alloc: Global, label: &Label) -> Result<(), JoinFault>

@@ -41,8 +41,8 @@ is_of_end (faults.Overlong place) = true
 is_of_end (faults.Blackhole place) = true
 is_of_end fault = false
 
--- with these lists of learnt addresses the fault of an end is shown: that of a name server without an address if it isn't in
--- the greatest
+-- with these lists of learnt addresses the fault of an end is shown: that of a name server without an address if it isn't
+-- in the greatest
 abbrev pub is_shown : Deps → Fault → Bool
 is_shown deps (faults.NoAddress cut) = not (is_among deps.greatest cut.ns)
 is_shown deps fault = is_of_end fault

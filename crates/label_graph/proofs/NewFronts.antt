@@ -1,10 +1,9 @@
 -- Fronts of a name that are put to names which have the root and the prefixes of each.
-use Rattle.std.proofs.Common.{ℕ, ◌+◌, ◌<◌, ◌⊎◌, List, [], ◌++◌, take, drop, Contains, IsPermutation, inl, inr, sym, subst, arith}
+use Rattle.std.proofs.Common.{ℕ, ◌+◌, ◌<◌, ◌⊎◌, List, [], ◌++◌, take, drop, Contains, inl, inr, sym, subst, arith}
 use Rattle.std.specs.Prelude.{◌↔◌}
 use Rattle.std.specs.List.{common_prefix_len}
 use Rattle.std.proofs.lemmas.Bool.{cases_lt}
 use Rattle.std.proofs.lemmas.List.{take-append-drop}
-use Rattle.std.proofs.lemmas.List.Sorted.{Contains-permutation, IsPermutation-sym}
 use Rattle.dns_data.specs.Label.{label_eq}
 use Rattle.dns_data.specs.Name.{Labels}
 use Rattle.dns_data.proofs.CommonFronts.{common_front}
@@ -49,13 +48,3 @@ module _ (old new : List Labels) (name : Labels) (from : ℕ) (have : HavePrefix
             | inr front ↦ (all_fronts above).1 (inr (front_above name above below front))
           ];
         }
-
--- a list in another order has the prefixes of its names, if it had them
-pub prefixes_moved : (old new : List Labels) → IsPermutation old new → HavePrefixes old → HavePrefixes new
-prefixes_moved old new moved have =
-    record {
-      root = Contains-permutation old new [] moved have.root;
-      prefixes = λ above below has.
-          Contains-permutation old new above moved
-          (have.prefixes above below (Contains-permutation new old (above ++ below) (IsPermutation-sym old new moved) has));
-    }

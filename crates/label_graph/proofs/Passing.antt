@@ -1,10 +1,9 @@
 -- What holds of some item of a list's front, and of a front with one item more.
 use Rattle.std.specs.List.{flat_map}
 use Rattle.std.proofs.lemmas.Grind.{flat_map-append}
-use Rattle.std.proofs.Common.{ap, arith, append-nil, ◌≡◌, ◌∙◌, ℕ, ◌+◌, ◌<◌, ◌≤◌, ◌⊎◌, List, [], ◌∷◌, ◌++◌, length, map, take, get_or, Contains, IsPermutation, inl, inr, sym, subst}
+use Rattle.std.proofs.Common.{ap, arith, append-nil, ◌≡◌, ◌∙◌, ℕ, ◌+◌, ◌<◌, ◌≤◌, ◌⊎◌, List, [], ◌∷◌, ◌++◌, length, map, take, get_or, Contains, inl, inr, sym, subst}
 use Rattle.std.proofs.lemmas.List.{take_more, take_all}
 use Rattle.std.proofs.lemmas.List.Elements.{Contains-append_left, Contains-append_right, Contains-append_cases}
-use Rattle.std.proofs.lemmas.List.Sorted.{Contains-permutation, IsPermutation-sym}
 use Rattle.std.specs.Prelude.{◌↔◌}
 use Rattle.label_graph.specs.Graphs.{SomeItem}
 use Rattle.dns_data.proofs.Membership.{none_in_nil, has_first, first_or_later, map_has, from_map, flat_map_has, from_flat_map}
@@ -141,27 +140,6 @@ pub some_seen : {X Y : Type 0} (f : X → Y) (P : Y → Type 0) (xs : List X) �
 some_seen f P xs = (
   λ (x, has, p). (f x, map_has f xs x has, p),
   λ (y, has, p). let (x, among, is) = from_map f xs y has in (x, among, subst P (sym is) p),
-)
-
--- some item has a property exactly if some item has it in another order
-pub some_moved : {X : Type 0} (P : X → Type 0) (xs ys : List X) → IsPermutation xs ys → SomeItem P xs ↔ SomeItem P ys
-some_moved P xs ys moved = (
-  λ (x, has, p). (x, Contains-permutation xs ys x moved has, p),
-  λ (x, has, p). (x, Contains-permutation ys xs x (IsPermutation-sym xs ys moved) has, p),
-)
-
--- in a loop over a list in another order, once all items are passed: what was there before, or comes from some item
-pub moved_iff : {X Y : Type 0} (f : X → Y) (P : Y → Type 0) (ys : List Y) (xs : List X) (k : ℕ) → IsPermutation ys (map f xs) → length xs ≤ k
-    → (base there : Type 0) → (there ↔ (base ⊎ SomeItem (λ x. P (f x)) (take k xs))) → there ↔ (base ⊎ SomeItem P ys)
-moved_iff f P ys xs k moved over base there was = (
-  λ has. elim (was.0 has) [
-    | inl b ↦ inl b
-    | inr some ↦ inr ((some_moved P ys (map f xs) moved).1 ((some_seen f P xs).0 (some_all (λ x. P (f x)) xs k over some)))
-  ],
-  λ either. elim either [
-    | inl b ↦ was.1 (inl b)
-    | inr some ↦ was.1 (inr (all_some (λ x. P (f x)) xs k over ((some_seen f P xs).1 ((some_moved P ys (map f xs) moved).0 some))))
-  ],
 )
 
 -- an item of lists in a row is one of some list

@@ -1,7 +1,6 @@
 pub use Rattle.dns_data.specs.Label
 pub use Rattle.dns_data.specs.Name
 pub use Rattle.net_model.specs.Reading
-pub mod Base
 pub mod ChildRows
 pub mod Graphs
 pub mod LiveSet

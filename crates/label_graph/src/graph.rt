@@ -4,11 +4,10 @@ ghost use Rattle.std.specs.Prelude.{◌≡◌, ◌↔◌, ℕ, List, [], ◌∷�
 ghost use Rattle.std.specs.declared.cmp.Ordering.TheVariants.{Less};
 ghost use Rattle.dns_data.specs.Label.{label_cmp};
 ghost use Rattle.dns_data.specs.Name.{Labels, AreInOrder};
-ghost use Rattle.net_model.specs.Reading.{IsNamed, ground_of};
+ghost use Rattle.net_model.specs.Reading.{IsNamed};
 ghost use Rattle.label_graph.specs.LiveSet.{IsClosed, IsLiveSet};
 ghost use Rattle.label_graph.specs.Pairs.{ground_with, AreSame};
 
-use crate::base::put_config;
 use crate::below::{has_step, step};
 use crate::closing::close;
 use crate::following::reads_of;
@@ -19,7 +18,6 @@ use crate::pair::{Pair, copies};
 use crate::rows::Rows;
 use crate::sorting::in_order;
 use dns_data::{Label, List, Name, NoMemory};
-use net_model::Config;
 use std::alloc::Global;
 use std::marker::Model;
 
@@ -44,18 +42,6 @@ impl Model for LabelGraph {
 }
 
 impl LabelGraph {
-    /// The graph of a configuration: of its base names and of the pairs of its DNAME records.
-    pub fn of_config(alloc: Global, config: &Config) -> Result<LabelGraph, NoMemory>
-        ensures same { IfOk result (λ graph. AreSame graph (ground_of config.now)) }
-        ensures order { IfOk result (λ graph. AreInOrder graph.names) }
-    {
-        let mut names = Vec::new(alloc);
-        let mut dnames = Vec::new(alloc);
-        names.push(Name::root())?;
-        put_config(alloc, config, &mut names, &mut dnames)?;
-        LabelGraph::build(alloc, names, dnames.as_slice())
-    }
-
     /// The graph of the names and of the pairs of DNAME records. The names are put in order.
     pub fn build(alloc: Global, names: Vec<Name>, dnames: &[Pair]) -> Result<LabelGraph, NoMemory>
         requires { IsClosed (ground_with names.items dnames.now) }

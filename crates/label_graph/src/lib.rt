@@ -1,23 +1,21 @@
 //! The label graph of base names and DNAME redirections (RFC 6672 section 2.2): the live set of a name, which has the
 //! base names to which the name reads on, found label by label. A name is named where its live set isn't empty.
 //!
-//! The layer above may rest on this: `of_config` makes the graph of a configuration, and `build` that of names which
-//! others gather, by `put_zone` and the like or from what they know of a zone. `start` and `advance` give the live set of
-//! a name in a graph, `has_next` tells whether a label makes a named name below a name with that live set, and
-//! `next_names` gives all labels that do, with the live sets of the names that they make.
+//! The layer above may rest on this: `build` makes the graph of names that others gather, by `put_names` and the like.
+//! `start` and `advance` give the live set of a name in a graph, `has_next` tells whether a label makes a named name below
+//! a name with that live set, and `next_names` gives all labels that do, with the live sets of the names that they make.
 //!
-//! Costs: the names of each zone are put in order before the next, zone after zone in the order of their origins: so the
-//! sort of all names finds them nearly in order. `build` sorts the names that it is given: it compares each with the next
-//! alone where they stand in order, and merges runs that do. The names move into the graph as they are. Building finds
-//! the name above each name along the one before it, and puts the names one label below each together in two passes. Then
-//! the target of each DNAME record is followed label by label from the root, and what is found is put down for its owner;
-//! since that may let other targets lead further, this is done again until nothing new is found, mostly once more. Each
-//! name has two numbers beside it: its place among those one label below another, and where those below itself end. Lists
-//! behind the last owner of a DNAME record take no memory. A live set has at most one place where no DNAME record plays a
-//! part, and one of one place takes no memory of its own; a label more costs a binary search among the last labels below
-//! each place, and no more where none of the names found is redirected. Else each place that is found is compared with
-//! those found before it, so a live set of n places costs n times n. The labels below one place are listed in order
-//! without a search or a sort, each with its own live set; those below several are sorted, and looked for.
+//! Costs: `build` sorts the names that it is given: it compares each with the next alone where they stand in order, and
+//! merges runs that do. The names move into the graph as they are. Building finds the name above each name along the
+//! one before it, and puts the names one label below each together in two passes. Then the target of each DNAME record
+//! is followed label by label from the root, and what is found is put down for its owner; since that may let other
+//! targets lead further, this is done again until nothing new is found, mostly once more. Each name has two numbers
+//! beside it: its place among those one label below another, and where those below itself end. Lists behind the last
+//! owner of a DNAME record take no memory. A live set has at most one place where no DNAME record plays a part, and one
+//! of one place takes no memory of its own; a label more costs a binary search among the last labels below each place,
+//! and no more where none of the names found is redirected. Else each place that is found is compared with those found
+//! before it, so a live set of n places costs n times n. The labels below one place are listed in order without a
+//! search or a sort, each with its own live set; those below several are sorted, and looked for.
 #![tactic(auto)]
 
 mod base;
@@ -35,7 +33,7 @@ mod parts;
 mod rows;
 mod sorting;
 
-pub use base::{put_config, put_names, put_pairs, put_server, put_zone};
+pub use base::{put_names, put_pairs};
 pub use graph::LabelGraph;
 pub use live::LiveSet;
 pub use next::NextName;

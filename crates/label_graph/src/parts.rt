@@ -1,23 +1,12 @@
 //! Fronts of names.
 
-ghost use Rattle.std.specs.Prelude.{◌≡◌, ◌↔◌, ◌⊎◌, ◌<◌, ℕ, take, Contains, IfOk, OnOk};
+ghost use Rattle.std.specs.Prelude.{◌↔◌, ◌⊎◌, ◌<◌, ℕ, take, Contains, OnOk};
 ghost use Rattle.dns_data.specs.Name.{Labels};
 ghost use Rattle.label_graph.specs.LiveSet.{HavePrefixes};
 ghost use Rattle.label_graph.specs.Targets.{IsPrefixFrom};
 
-use dns_data::{JoinFault, Name, NoMemory};
+use dns_data::{Name, NoMemory};
 use std::alloc::Global;
-
-/// The name with the first labels of this one, as many as asked for, or all if there are fewer.
-pub(crate) fn front_of(alloc: Global, name: &Name, count: usize) -> Result<Name, NoMemory>
-    ensures { IfOk result (λ front. front ≡ take count name.now) }
-{
-    match Name::root().join_labels(alloc, &name.labels().front(count)) {
-        Ok(front) => Ok(front),
-        Err(JoinFault::NoMemory) => Err(NoMemory),
-        Err(JoinFault::TooLong) => unreachable!(),
-    }
-}
 
 /// Puts the fronts of the name that aren't among the names at the end, where the names have the root and the prefixes of
 /// each: those that the name shares with the last of them are passed over.
@@ -52,7 +41,7 @@ pub(crate) fn put_fronts(
     ensures { OnOk result ((front : Labels) → Contains names.new.items front ↔ (Contains names.old.items front ⊎ IsPrefixFrom from name.now front)) }
 {
     for count in from..name.len() as usize + 1 {
-        names.push(front_of(alloc, name, count)?)?;
+        names.push(name.copy_front(alloc, count)?)?;
     }
     Ok(())
 }

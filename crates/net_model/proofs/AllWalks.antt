@@ -232,7 +232,7 @@ same_walks_along setting rtype depth query = starts_give setting rtype depth 0 (
 -- ---- their order
 
 -- each stands before the later ones
-abbrev Rise : List Numbered → Type 0
+abbrev pub Rise : List Numbered → Type 0
 Rise [] = Unit {0}
 Rise (x ∷ xs) = ((y : Numbered) → Contains xs y → path_cmp x.0 y.0 ≡ Less) × Rise xs
 
@@ -285,7 +285,8 @@ branch_rises : (on : State → List Numbered) → ((state : State) → Rise (on 
 branch_rises on rise state number (Go hop to) = rise_map number (led_on state hop) (on to) (rise to)
 branch_rises on rise state number (End hop leaf) = ((λ y has. absurd (none_in_nil y has)), tt)
 
-from_rises : (setting : Setting) (rtype : RrType) (depth : ℕ) (state : State) → Rise (all_from depth setting rtype state)
+-- the walks from a state are listed in the order of their numbers
+pub from_rises : (setting : Setting) (rtype : RrType) (depth : ℕ) (state : State) → Rise (all_from depth setting rtype state)
 from_rises setting rtype zero state = tt
 from_rises setting rtype (suc depth) state =
     turn_rises (by_branch (all_from depth setting rtype) state)
@@ -302,7 +303,7 @@ along_rises setting rtype depth query =
     0 (start setting.config query)
 
 -- each pair stands in order
-pairs_rise : (xs : List Numbered) → Rise xs → AllPairs (λ (a b : Numbered). path_cmp a.0 b.0 ≡ Less) xs
+pub pairs_rise : (xs : List Numbered) → Rise xs → AllPairs (λ (a b : Numbered). path_cmp a.0 b.0 ≡ Less) xs
 pairs_rise [] rise = λ i j d before within. absurd (omega arith)
 pairs_rise (x ∷ xs) rise =
     AllPairs-cons (λ (a b : Numbered). path_cmp a.0 b.0 ≡ Less) x xs (all_from_contains (λ (y : Numbered). path_cmp x.0 y.0 ≡ Less) xs rise.0) (pairs_rise xs rise.1)

@@ -13,6 +13,7 @@ pub mod FaultOrder
 pub mod FirstLabel
 pub mod Followed
 pub mod InForce
+pub mod ItemsInOrder
 pub mod JoinedNames
 pub mod Leads
 pub mod LearntSets

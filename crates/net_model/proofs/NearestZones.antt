@@ -1,6 +1,6 @@
 -- The zones, records and owners of a configuration, and the zone in which a server looks a name up: it is one of them, and
 -- its origin is at or above the name.
-use Rattle.std.proofs.Common.{◌≡◌, map, reverse, Contains, Option, Some, None, is_some, option_and_then, sym, refl, subst}
+use Rattle.std.proofs.Common.{◌≡◌, ◌∙◌, map, reverse, Contains, Option, Some, None, is_some, option_and_then, sym, refl, ap, subst}
 use Rattle.std.proofs.lemmas.List.Sorted.{IsPermutation-reverse, IsPermutation-sym, Contains-permutation}
 use Rattle.std.proofs.lemmas.List.Elements.{Contains-append_left, Contains-append_right}
 use Rattle.dns_data.specs.Name.{Labels, name_eq}
@@ -12,7 +12,7 @@ use Rattle.dns_data.proofs.Searches.{found_there}
 use Rattle.net_model.specs.declared.config.Config.{Config}
 use Rattle.net_model.specs.declared.config.Server.{Server}
 use Rattle.net_model.specs.declared.config.Zone.{Zone}
-use Rattle.net_model.specs.Nearest.{server_named, zone_with_origin, nearest, nearest_of}
+use Rattle.net_model.specs.Nearest.{server_named, zone_with_origin, held_zone, nearest, nearest_of}
 use Rattle.net_model.specs.Prefix.{prefixes, longest}
 use Rattle.net_model.specs.Reading.{zones, records, origins_and_owners}
 use Rattle.net_model.proofs.Prefixes.{from_prefixes}
@@ -71,3 +71,15 @@ nearest_tells config server name zone e = by (server_named config server) refl e
       let there = found_there (λ (s : Server). name_eq s.name server) config.servers holder is in
       let holds = nearest_holds holder name zone e in
       (zone_of_config config holder zone there.0 holds.0, holds.1)
+
+held_from : (holder : Server) (zone : Zone) (origin : Option Labels) → option_and_then (zone_with_origin holder) origin ≡ Some zone
+    → zone_with_origin holder zone.origin ≡ Some zone
+held_from holder zone None e = cc
+held_from holder zone (Some origin) e = ap (zone_with_origin holder) (holds_origin holder origin zone e).1 ∙ e
+
+-- the zone in which a server looks a name up is the one that it holds for the zone's origin
+pub nearest_is_held : (config : Config) (server name : Labels) (zone : Zone) → nearest_of config server name ≡ Some zone → held_zone config server zone.origin ≡ Some zone
+nearest_is_held config server name zone e = by (server_named config server) e where
+  by : (holder : Option Server) → option_and_then (λ holder. nearest holder name) holder ≡ Some zone → option_and_then (λ holder. zone_with_origin holder zone.origin) holder ≡ Some zone
+  by None e = cc
+  by (Some holder) e = held_from holder zone (longest (λ above. is_some (zone_with_origin holder above)) name) e

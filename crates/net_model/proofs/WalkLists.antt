@@ -40,7 +40,7 @@ map_same f g (x ∷ xs) agree =
     ap (λ y. y ∷ map f xs) (agree x (has_first x xs)) ∙ ap (λ ys. g x ∷ ys) (map_same f g xs (λ y has. agree y (has_later x xs y has)))
 
 -- what is there
-the_walk : (o : Option Walk) → is_some o ≡ true → (walk : Walk) × (o ≡ Some walk)
+pub the_walk : (o : Option Walk) → is_some o ≡ true → (walk : Walk) × (o ≡ Some walk)
 the_walk None e = cc
 the_walk (Some walk) e = (walk, refl)
 

@@ -4,6 +4,7 @@ pub use Rattle.dns_data.specs.Rdata
 pub use Rattle.dns_data.specs.RrType
 pub use Rattle.dns_data.specs.DataText
 pub mod Class
+pub mod Configured
 pub mod FaultOrder
 pub mod Learnt
 pub mod Lookup

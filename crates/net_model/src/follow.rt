@@ -31,7 +31,7 @@ pub fn is_among(names: &[Name], name: &Name) -> bool
 fn is_top(config: &Config, name: &Name) -> bool
     ensures { result ≡ is_top config.now name.now }
 {
-    is_among(config.tops.items(), name)
+    is_among(config.tops(), name)
 }
 
 /// Whether the name server has glue in the referral: it is at or below the zone cut, and the referring zone holds an
@@ -58,11 +58,7 @@ pub fn held_zone<'a>(config: &'a Config, server: &Name, origin: &Name) -> Option
 fn server_named<'a>(config: &'a Config, name: &Name) -> Option<&'a Server>
     ensures { option_map (λ server. server.now) result ≡ server_named config.now name.now }
 {
-    config
-        .servers
-        .items()
-        .iter()
-        .find(|server| server.name == *name)
+    config.servers().iter().find(|server| server.name == *name)
 }
 
 /// The server's zone with this origin.

@@ -1,7 +1,5 @@
 -- The records whose targets a zone gives.
-use Rattle.std.proofs.Common.{◌≡◌, true, ◌⊎◌, List, [], ◌∷◌, Contains, filter, Some, ap, subst, ◌∙◌, inl, inr}
-use Rattle.std.specs.declared.cmp.Ordering.{Ordering}
-use Rattle.std.specs.declared.cmp.Ordering.TheVariants.{Less, Equal, Greater}
+use Rattle.std.proofs.Common.{◌≡◌, true, List, [], ◌∷◌, Contains, filter, Some, ap, subst, ◌∙◌}
 use Rattle.std.proofs.lemmas.Bool.{and_parts}
 use Rattle.dns_data.specs.Name.{Labels, name_eq, name_cmp}
 use Rattle.dns_data.specs.Rdata.{has_type}
@@ -10,43 +8,13 @@ use Rattle.dns_data.specs.declared.rdata.Rdata.TheVariants.{Ns, Cname, Dname}
 use Rattle.dns_data.specs.declared.rdata.Rr.{Rr}
 use Rattle.dns_data.specs.declared.rr_type.RrType.{RrType}
 use Rattle.dns_data.specs.declared.rr_type.RrType.TheVariants as types
-use Rattle.dns_data.proofs.Membership.{none_in_nil, has_first, has_later, first_or_later, from_filter, from_map}
+use Rattle.dns_data.proofs.Membership.{has_first, from_filter, from_map}
 use Rattle.dns_data.proofs.Names.{name_eq_decides}
 use Rattle.dns_data.proofs.Searches.{from_filter_map}
 use Rattle.net_model.specs.declared.config.Zone.{Zone}
 use Rattle.net_model.specs.Lookup.{first_name}
-use Rattle.net_model.specs.Order.{in_order, put_in_order, beside}
 use Rattle.net_model.specs.Zone.{is_of, data_at, target_of, targets_at, ns_names}
-
-module _ {A : Type 0} (cmp : A → A → Ordering) where
-  -- an item of a list into which one was put is that one, or was there
-  pub from_put : (item : A) (xs : List A) (x : A) → Contains (put_in_order cmp item xs) x → (item ≡ x) ⊎ Contains xs x
-  from_put item [] x has = elim (first_or_later item [] x has) [
-    | inl same ↦ inl same
-    | inr none ↦ absurd (none_in_nil x none)
-  ]
-  from_put item (first ∷ rest) x has = by (cmp item first) has (from_put item rest x) where
-    by : (o : Ordering) → Contains (beside item first rest (put_in_order cmp item rest) o) x → (Contains (put_in_order cmp item rest) x → (item ≡ x) ⊎ Contains rest x)
-        → (item ≡ x) ⊎ Contains (first ∷ rest) x
-    by Less has later = first_or_later item (first ∷ rest) x has
-    by Equal has later = inr has
-    by Greater has later =
-        elim (first_or_later first (put_in_order cmp item rest) x has) [
-          | inl same ↦ inr (subst (Contains (first ∷ rest)) same (has_first first rest))
-          | inr behind ↦ elim (later behind) [
-            | inl same ↦ inl same
-            | inr there ↦ inr (has_later first rest x there)
-          ]
-        ]
-
-  -- each item of the list in order is one of the list
-  pub from_in_order : (xs : List A) (x : A) → Contains (in_order cmp xs) x → Contains xs x
-  from_in_order [] x has = absurd (none_in_nil x has)
-  from_in_order (item ∷ rest) x has =
-      elim (from_put item (in_order cmp rest) x has) [
-        | inl same ↦ subst (Contains (item ∷ rest)) same (has_first item rest)
-        | inr later ↦ has_later item rest x (from_in_order rest x later)
-      ]
+use Rattle.net_model.proofs.ItemsInOrder.{from_order}
 
 -- the zone has a record of the owner and type with this target
 pub record HasTarget (zone : Zone) (owner : Labels) (rtype : RrType) (target : Labels) : Type 0 where
@@ -100,4 +68,4 @@ dname_data rdata target is e = cc
 
 -- each name server of a name is the target of an NS record
 pub from_ns_names : (zone : Zone) (owner ns : Labels) → Contains (ns_names zone owner) ns → HasTarget zone owner types.Ns ns
-from_ns_names zone owner ns has = from_targets zone owner types.Ns ns (from_in_order name_cmp (targets_at zone owner types.Ns) ns has)
+from_ns_names zone owner ns has = from_targets zone owner types.Ns ns (from_order name_cmp (targets_at zone owner types.Ns) ns has)

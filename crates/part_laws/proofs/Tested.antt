@@ -101,8 +101,8 @@ module _ (config : Config) (names : List Labels) where
         || (list_all (λ label. nat_lt (length shorter) (length label)) (drop (length b - 1) b)
         && is_among unread (take (length b - 1) b ++ shorter ∷ []))
 
-    -- the names of the conditions that aren't met, with a label, and with names that nothing reads, among which it makes one
-    -- below each name that has a child left out
+    -- the names of the conditions that aren't met, with a label, and with names that nothing reads, among which it makes
+    -- one below each name that has a child left out
     abbrev pub unmet : List (List ℕ)
     unmet =
         unless (is_among names []) (codes "root")

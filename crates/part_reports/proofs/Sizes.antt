@@ -7,6 +7,7 @@ use Rattle.dns_data.specs.Name.{Labels, IsName, name_cmp, AreInOrder}
 use Rattle.dns_data.proofs.Membership.{filter_has, from_filter, map_has, from_map, flat_map_has, from_flat_map}
 use Rattle.dns_data.proofs.NameFronts.{Begins}
 use Rattle.dns_data.proofs.NameOrder.{names_total, pairs_from_rising}
+use Rattle.dns_data.proofs.Names.{same_names}
 use Rattle.dns_data.proofs.OrderedLists.{same_rising}
 use Rattle.graph_form.specs.Report.{IsTreeSize}
 use Rattle.net_model.specs.declared.class.Class.TheVariants.{Below}
@@ -14,17 +15,16 @@ use Rattle.net_model.specs.declared.config.Config.{Config}
 use Rattle.std.specs.declared.cmp.Ordering.TheVariants.{Less}
 use Rattle.net_model.specs.Order.{in_order}
 use Rattle.net_model.specs.Reading.{Ground, IsNamed, ground_of}
+use Rattle.net_model.proofs.ItemsInOrder.{from_order, order_has, order_rises}
 use Rattle.net_model.proofs.Naming.{is_listed, from_listed}
 use Rattle.part_laws.specs.Part.{IsLocal, IsPart, restricted}
 use Rattle.part_laws.proofs.ClassesAlike.{representative_alike}
 use Rattle.part_laws.proofs.Fronts.{based_front, front_local}
-use Rattle.part_laws.proofs.Targets.{from_in_order}
 use Rattle.part_laws.proofs.NamesAlike.{named_whole, named_left, named_local, held_based, left_based_held}
 use Rattle.part_reports.specs.Gathered.{AreParts}
 use Rattle.part_reports.specs.Owned.{IsLongestBase, IsOwnName, HasClassBelow, AreOwnNames, AnswerForAll}
 use Rattle.part_reports.specs.PartReport.{PartReport}
 use Rattle.part_reports.proofs.Counts.{one_there, counted_once, sum_same}
-use Rattle.query_classes.proofs.ChildLists.{order_has, order_rises}
 
 -- of two prefixes of a name the one that begins the other and isn't shorter is the other
 same_front : (a b : Labels) → Begins a b → length b ≤ length a → a ≡ b
@@ -128,11 +128,11 @@ module _ (config : Config) (parts : List PartReport) (are : AnswerForAll config 
     -- together they are the names of the whole's tree with the property
     together_all : (name : Labels) → Contains put_together name ↔ (IsNamed (ground_of config) name × IsName name × Q (ground_of config) name)
     together_all name = (
-      λ has. (let (part, among, inside) = from_flat_map list parts name (from_in_order name_cmp (flat_map list parts) name has) in
+      λ has. (let (part, among, inside) = from_flat_map list parts name (from_order name_cmp (flat_map list parts) name has) in
           let (named, is_name, also, own) = from_list part among name inside in
           (named, is_name, also)),
       λ (named, is_name, also). (let (part, among, own) = owner_of name in
-          order_has (flat_map list parts) name (flat_map_has list parts part name among (to_list part among name named is_name also own))),
+          order_has name_cmp same_names (flat_map list parts) name (flat_map_has list parts part name among (to_list part among name named is_name also own))),
     )
 
     -- each part's list has those of them that are own

@@ -1,5 +1,5 @@
 -- How walks end, what they ask last, and whether they are rewritten.
-use Rattle.std.specs.Prelude.{ℕ, ◌-◌, Bool, true, false, List, [], ◌∷◌, length, Option, slice_get, if◌then◌else◌}
+use Rattle.std.specs.Prelude.{◌-◌, Bool, true, false, List, [], ◌∷◌, length, Option, slice_get, if◌then◌else◌}
 use Rattle.std.specs.List.{list_any}
 use Rattle.std.specs.Option.{option_map_or}
 use Rattle.net_model.specs.declared.walk.Hop.{Hop}

@@ -62,7 +62,7 @@ pub fn learnt_at(
     let tops = TopServers::unlike(alloc, hosts)?;
     let mut followed = FollowedNames::first(alloc, from.copy(alloc)?);
     let mut tolds = never_told(alloc, config)?;
-    for _round in 0..config.servers.items().len() {
+    for _round in 0..config.servers().len() {
         tolds = told_while(alloc, hosts, &tops, rewrites, &followed, tolds, most)?;
         let learnt = names_learnt(alloc, tolds.items())?;
         if learnt == followed.names {
@@ -78,7 +78,7 @@ fn never_told(alloc: Global, config: &Config) -> Result<List<ToldName>, NoMemory
     ensures { IfOk result (λ tolds. names_told tolds ≡ server_names config.now) }
 {
     let mut tolds = List::new(alloc);
-    for server in config.servers.items() {
+    for server in config.servers() {
         tolds.push(ToldName {
             name: server.name.copy(alloc)?,
             learnt: false,
@@ -189,8 +189,8 @@ fn asked(
     }
 }
 
-/// Whether an address of a name can be learnt; or `None` where it isn't seen at once that the name rests, or where it has more
-/// than `most` walks of a type, which are one at each top server.
+/// Whether an address of a name can be learnt; or `None` where it isn't seen at once that the name rests, or where it has
+/// more than `most` walks of a type, which are one at each top server.
 fn learnt_within(
     alloc: Global,
     hosts: &Hosts<'_>,
@@ -202,7 +202,7 @@ fn learnt_within(
     ensures rests { IfOk result (λ told. IfSome told (Rests hosts.now name.now)) }
     ensures few { IfOk result (λ told. IfSome told (λ learnt. (rewrites : ℕ) (followed : Items Labels) → HasTooMany hosts.now rewrites most followed name.now → ⊥)) }
 {
-    if hosts.config().tops.items().len() > most as usize {
+    if hosts.config().tops().len() > most as usize {
         return Ok(None);
     }
     learnt_at_tops(alloc, hosts, tops, name)

@@ -86,9 +86,9 @@ pub fn ends_at(
     Ok(ends)
 }
 
-/// What the walks of a name ask last that end in what a zone tells, in order: the server, and the name for which it is asked
-/// there. The walks begin at the top servers, or at the server that is named, in the state in which it looks the name up,
-/// with no rewrite used. It is `WalksPassed` where there are more than `most` walks. None is made.
+/// What the walks of a name ask last that end in what a zone tells, in order: the server, and the name for which it is
+/// asked there. The walks begin at the top servers, or at the server that is named, in the state in which it looks the name
+/// up, with no rewrite used. It is `WalksPassed` where there are more than `most` walks. None is made.
 pub fn zone_ends(
     alloc: Global,
     walker: Walker<'_, '_>,

@@ -77,7 +77,8 @@ fn count_names(alloc: Global, graph: &LabelGraph, from: &Name, most: u32) -> Res
         }
         left -= 1;
         let below = next.children(alloc, graph)?;
-        // What holds a name is dropped by a call: dropped where a block ends, it is taken apart there by the kinds of names.
+        // What holds a name is dropped by a call: dropped where a block ends, it is taken apart there by the kinds of
+        // names.
         drop(next);
         put_last_first(below, &mut waiting)?;
     }

@@ -41,7 +41,7 @@ pub(crate) struct Checker<'h, 'a> {
     hosts: &'h Hosts<'a>,
     rewrites: u32,
     sets: LearntSets,
-    classes: Classes<'a>,
+    classes: Classes<'h, 'a>,
     counted: BTreeMap<Name, List<RrType>>,
 }
 
@@ -74,7 +74,7 @@ impl<'h, 'a> Checker<'h, 'a> {
             hosts,
             rewrites,
             sets,
-            classes: Classes::new(hosts.config()),
+            classes: Classes::new(hosts),
             counted: BTreeMap::new(alloc),
         }
     }

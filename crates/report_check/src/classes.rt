@@ -7,21 +7,23 @@ ghost use Rattle.net_model.specs.Reading.{ground_of};
 ghost use Rattle.net_model.specs.Shown.{Represents};
 ghost use Rattle.net_model.specs.declared.class.Class.{Class as ClassValue};
 
+use base_names::base_graph;
 use dns_data::{Name, NoMemory};
 use label_graph::LabelGraph;
-use net_model::{Class, Config};
+use net_model::Class;
 use query_classes::{class_of, representative};
 use std::alloc::Global;
 use std::marker::Model;
+use zone_lookup::Hosts;
 
 /// The classes of a configuration. Contracts see the configuration.
 #[derive(Drop)]
-pub(crate) struct Classes<'a> {
-    config: &'a Config,
+pub(crate) struct Classes<'h, 'a> {
+    hosts: &'h Hosts<'a>,
     graph: Option<LabelGraph>,
 }
 
-impl<'a> Model for Classes<'a> {
+impl<'h, 'a> Model for Classes<'h, 'a> {
     ghost use Rattle.net_model.specs.declared.config.Config.{Config};
     ghost use Rattle.net_model.specs.Reading.{ground_of};
     ghost use Rattle.label_graph.specs.Pairs.{AreSame};
@@ -29,20 +31,17 @@ impl<'a> Model for Classes<'a> {
 
     ghost Value = { Config };
 
-    ghost view = { λ classes. classes.config.now };
+    ghost view = { λ classes. classes.hosts.now };
 
-    ghost invariant = { λ classes. IfSome classes.graph (λ graph. AreSame graph (ground_of classes.config.now)) };
+    ghost invariant = { λ classes. IfSome classes.graph (λ graph. AreSame graph (ground_of classes.hosts.now)) };
 }
 
-impl<'a> Classes<'a> {
+impl<'h, 'a> Classes<'h, 'a> {
     /// The classes of a configuration. No graph is made yet.
-    pub(crate) fn new(config: &'a Config) -> Classes<'a>
-        ensures { result ≡ config.entry.now }
+    pub(crate) fn new(hosts: &'h Hosts<'a>) -> Classes<'h, 'a>
+        ensures { result ≡ hosts.entry.now }
     {
-        Classes {
-            config,
-            graph: None,
-        }
+        Classes { hosts, graph: None }
     }
 
     /// The class of the name.
@@ -75,7 +74,7 @@ impl<'a> Classes<'a> {
     {
         match self.graph.take() {
             Some(graph) => Ok(graph),
-            None => LabelGraph::of_config(alloc, self.config),
+            None => base_graph(alloc, self.hosts),
         }
     }
 }

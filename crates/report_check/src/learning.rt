@@ -36,7 +36,7 @@ fn server_names(alloc: Global, config: &Config) -> Result<List<Name>, NoMemory>
     ensures { IfOk result (λ names. names ≡ server_names config.now) }
 {
     let mut names = List::new(alloc);
-    for server in config.servers.items() {
+    for server in config.servers() {
         names.push(server.name.copy(alloc)?)?;
     }
     Ok(names)

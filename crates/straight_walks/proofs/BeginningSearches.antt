@@ -1,5 +1,5 @@
--- A search begins at the top servers: at all of them, or at those that hold a zone for a name, which are the same for each name
--- below it with no origin between.
+-- A search begins at the top servers: at all of them, or at those that hold a zone for a name, which are the same for each
+-- name below it with no origin between.
 use Rattle.std.proofs.Common.{◌≡◌, ◌<◌, ◌≤◌, Bool, true, false, cond, List, [], ◌∷◌, length, map, filter, Contains, Option, Some, None, is_some, true≢false, refl, sym, ap, ◌∙◌, subst, inl, inr, arith, lt-ltb}
 use Rattle.std.specs.Prelude.{◌⊎◌, nat_lt}
 use Rattle.std.proofs.lemmas.Bool.{ltb-true}

@@ -21,11 +21,12 @@ use Rattle.net_model.specs.declared.walk.Leaf.{Leaf}
 use Rattle.net_model.specs.declared.walk.Leaf.TheVariants as leaves
 use Rattle.net_model.specs.declared.walk.State.{State}
 use Rattle.walk_laws.specs.Outcome.{outcome_of}
+use Rattle.zone_lookup.specs.CutTable.{cut_to}
 use Rattle.zone_lookup.specs.ReferralFaults.{if_shown, referral_faults}
 use Rattle.straight_walks.specs.Faulty.{BranchShows, IsTold, branch_hop, faults_at, faulty_cut, flag_faults, shows_some}
 use Rattle.straight_walks.specs.declared.faulty.ReferralFlags.{ReferralFlags}
 use Rattle.straight_walks.specs.declared.faulty.Faulty.{Faulty}
-use Rattle.straight_walks.specs.Searching.{AreFlagsOf, AreReferrals, IsFaultyPut, KeepsAbove, KeepsFaulty, Known, Extends, IsReferral, IsSettingOf, cut_to, no_flags, outer_leaf, state_at, queued_state, to_servers}
+use Rattle.straight_walks.specs.Searching.{AreFlagsOf, AreReferrals, IsFaultyPut, KeepsAbove, KeepsFaulty, Known, Extends, IsReferral, IsSettingOf, no_flags, outer_leaf, state_at, queued_state, to_servers}
 use Rattle.straight_walks.specs.Straight.{EndsUnanswered, FailsOrGoes}
 use Rattle.straight_walks.specs.declared.queue.Queued.{Queued}
 use Rattle.straight_walks.specs.declared.name_server.Referral.TheVariants as referral

@@ -9,8 +9,9 @@ use Rattle.net_model.specs.declared.deps.Deps.{Deps}
 use Rattle.net_model.specs.Zone.{ns_names}
 use Rattle.net_model.specs.declared.config.Config.{Config}
 use Rattle.zone_tree.specs.Tree.{ZoneTree, name_of}
+use Rattle.zone_lookup.specs.CutTable.{cut_to}
 use Rattle.zone_lookup.specs.Reply.{IsReply}
-use Rattle.straight_walks.specs.Searching.{AllEndOutside, AreEndsFor, AreReferrals, EndsOutside, HavePassed, HasPassed, IsAnswered, IsReferral, Known, PassesServer, cut_to, failing, no_flags, nothing_below, nothing_there, unanswered}
+use Rattle.straight_walks.specs.Searching.{AllEndOutside, AreEndsFor, AreReferrals, EndsOutside, HavePassed, HasPassed, IsAnswered, IsReferral, Known, PassesServer, failing, no_flags, nothing_below, nothing_there, unanswered}
 use Rattle.straight_walks.specs.Regions.{IsSearchBelow}
 use Rattle.straight_walks.specs.Straight.{NoOriginBetween}
 use Rattle.straight_walks.specs.declared.ends.StraightEnds.{StraightEnds}

@@ -2,11 +2,10 @@
 use Rattle.std.proofs.Common.{◌≡◌, ℕ, ◌+◌, ◌<◌, List, [], ◌∷◌, ◌++◌, length, map, take, get_or, Bor, Ordering, Less, Equal, Greater, refl, sym, ◌∙◌, subst, inl, inr}
 use Rattle.std.specs.Prelude.{◌⊎◌, Contains}
 use Rattle.std.specs.BTreeSet.{insert_key}
-use Rattle.std.specs.List.Sorted.{IsStrictlySortedBy}
 use Rattle.std.specs.Ordering.{match_ordering}
 use Rattle.std.proofs.lemmas.List.{take_more}
 use Rattle.std.proofs.lemmas.List.Elements.{Contains-append_cases}
-use Rattle.zone_lookup.proofs.FirstsByName.{borrowed_cmp, all_rise}
+use Rattle.zone_lookup.proofs.FirstsByName.{borrowed_cmp}
 use Rattle.dns_data.specs.Name.{Labels, name_cmp}
 use Rattle.dns_data.proofs.Membership.{first_or_later, has_first, has_later, none_in_nil}
 use Rattle.dns_data.proofs.Names.{same_names}
@@ -14,12 +13,6 @@ use Rattle.dns_data.proofs.Names.{same_names}
 -- the names behind references
 abbrev pub names_of : List (Bor Labels) → List Labels
 names_of names = map (λ name. name.now) names
-
--- the names behind references that stand in order stand in order
-pub names_rise : (names : List (Bor Labels)) → IsStrictlySortedBy borrowed_cmp names → IsStrictlySortedBy name_cmp (names_of names)
-unfolding IsStrictlySortedBy
-names_rise [] sorted = tt
-names_rise (name ∷ names) sorted = (all_rise name names sorted.0, names_rise names sorted.1)
 
 -- a name that is put into a set is there
 pub put_there : (name : Bor Labels) (names : List (Bor Labels)) → Contains (names_of (insert_key borrowed_cmp names name)) name.now

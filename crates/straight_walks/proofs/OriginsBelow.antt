@@ -1,5 +1,5 @@
--- No origin stands below a name where one that doesn't stand behind it is followed by one that is past the name and all names
--- below it.
+-- No origin stands below a name where one that doesn't stand behind it is followed by one that is past the name and all
+-- names below it.
 use Rattle.std.proofs.Common.{◌≡◌, ℕ, ◌+◌, ◌<◌, ◌≤◌, true, false, ◌⊎◌, List, [], length, get_or, Option, Some, None, Ordering, Less, Equal, Greater, is_lt, is_gt, refl, sym, ap, ◌∙◌, subst, inl, inr, true≢false, arith}
 use Rattle.std.specs.Prelude.{Contains}
 use Rattle.std.specs.List.Sorted.{IsStrictlySortedBy}
@@ -103,8 +103,8 @@ module _ (regions : List Region) (name : Labels) (place : ℕ) where
   pub none_next : length regions ≤ place + 1 → IsNextPast
   none_next short within = absurd (omega (arith, short, within, length-map regions origin_of))
 
--- no server has a zone with an origin below the name, where the region at a place doesn't stand behind it and the next one is past
--- the names below it
+-- no server has a zone with an origin below the name, where the region at a place doesn't stand behind it and the next one
+-- is past the names below it
 pub none_below : (config : Config) (deps : Deps) (regions : List Region) → AreRegions config deps regions → (name : Labels) (place : ℕ) (region : Region)
     → place < length regions → region ≡ get_or regions place region → UpTo (origin_of region) name → IsNextPast regions name place → NoOriginBelow config name
 none_below config deps regions are name place region within is up_to past server longer below more = by (held_zone config server longer) refl where

@@ -18,8 +18,9 @@ use Rattle.net_model.specs.declared.walk.Leaf.{Leaf}
 use Rattle.net_model.specs.declared.walk.Leaf.TheVariants as leaves
 use Rattle.net_model.specs.declared.walk.State.{State}
 use Rattle.walk_laws.specs.Outcome.{outcome_of}
+use Rattle.zone_lookup.specs.CutTable.{cut_to}
 use Rattle.straight_walks.specs.Faulty.{AreAbove, BranchShows, branch_hop, faults_at}
-use Rattle.straight_walks.specs.Searching.{AreReferrals, IsSettingOf, Known, cut_to, state_at, queued_state, to_servers}
+use Rattle.straight_walks.specs.Searching.{AreReferrals, IsSettingOf, Known, state_at, queued_state, to_servers}
 use Rattle.straight_walks.specs.Straight.{FailsOrGoes}
 use Rattle.straight_walks.specs.declared.faulty.Faulty.{Faulty}
 use Rattle.straight_walks.specs.declared.queue.Queued.{Queued}

@@ -17,6 +17,7 @@ use Rattle.net_model.specs.declared.place.Place.{Place}
 use Rattle.net_model.specs.declared.walk.Hop.TheVariants.{Rewrite}
 use Rattle.net_model.specs.declared.walk.Leaf.TheVariants.{Limit, Outside}
 use Rattle.net_model.specs.declared.walk.State.{State}
+use Rattle.net_model.proofs.NearestZones.{nearest_is_held}
 use Rattle.zone_tree.specs.Tree.{ZoneTree, name_of}
 use Rattle.zone_lookup.specs.Reply.{IsReply}
 use Rattle.zone_lookup.specs.declared.reply.Reply.{Reply}
@@ -27,7 +28,6 @@ use Rattle.zone_lookup.specs.Resting.{data_leaf}
 use Rattle.straight_walks.specs.Answers.{owner_leaf, sorted_data, zone_owner}
 use Rattle.straight_walks.specs.Searching.{AnswersAt, state_at, to_servers}
 use Rattle.straight_walks.proofs.BelowOrigins.{cut_begins}
-use Rattle.straight_walks.proofs.Unhosted.{nearest_is_held}
 
 -- an owner's data, or that it has none
 answers : (found : List Rdata) (setting : Setting) (state : State) (origin : Labels) → after_lookup setting state origin (answer_of found) ≡ End None (data_leaf found) ∷ []

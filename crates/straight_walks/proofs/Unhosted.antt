@@ -1,17 +1,13 @@
 -- A referral to a name server that isn't configured is sound unless it wants glue, and walks end there.
 use Rattle.std.proofs.Common.{◌≡◌, Bool, true, false, not, Option, Some, None, refl, ap, ◌∙◌}
-use Rattle.std.specs.Prelude.{◌&&◌, is_some, option_and_then}
+use Rattle.std.specs.Prelude.{◌&&◌, is_some}
 use Rattle.std.specs.Option.{option_map_or}
-use Rattle.dns_data.specs.Name.{Labels, name_eq, is_prefix}
+use Rattle.dns_data.specs.Name.{Labels, is_prefix}
 use Rattle.dns_data.proofs.Membership.{none_in_nil}
-use Rattle.dns_data.proofs.Names.{name_eq_decides}
-use Rattle.dns_data.proofs.Searches.{found_there}
 use Rattle.net_model.specs.declared.deps.Deps.{Deps}
-use Rattle.net_model.specs.Nearest.{held_zone, nearest, nearest_of, server_named, zone_with_origin}
-use Rattle.net_model.specs.Prefix.{longest}
+use Rattle.net_model.specs.Nearest.{held_zone, server_named}
 use Rattle.net_model.specs.Zone.{has_address}
 use Rattle.net_model.specs.declared.config.Config.{Config}
-use Rattle.net_model.specs.declared.config.Server.{Server}
 use Rattle.net_model.specs.declared.config.Zone.{Zone}
 use Rattle.net_model.specs.declared.place.Cut.{Cut}
 use Rattle.zone_lookup.specs.Sound.{wants_glue}
@@ -19,22 +15,6 @@ use Rattle.zone_lookup.proofs.SoundReferrals.{unhosted_sound}
 use Rattle.straight_walks.specs.Searching.{IsReferral, no_flags}
 use Rattle.straight_walks.specs.declared.name_server.Referral.TheVariants as referral
 use Rattle.straight_walks.proofs.ToldFlags.{ends_unhosted, sound_shows_none}
-
--- ---- the zone in which a server looks a name up is one that it holds
-
-held_from : (holder : Server) (zone : Zone) (origin : Option Labels) → option_and_then (zone_with_origin holder) origin ≡ Some zone → zone_with_origin holder zone.origin ≡ Some zone
-held_from holder zone None e = cc
-held_from holder zone (Some origin) e =
-    ap (zone_with_origin holder) ((name_eq_decides zone.origin origin).0 (found_there (λ (z : Zone). name_eq z.origin origin) holder.zones zone e).1) ∙ e
-
--- the zone in which a server looks a name up is the one that it holds for the zone's origin
-pub nearest_is_held : (config : Config) (server name : Labels) (zone : Zone) → nearest_of config server name ≡ Some zone → held_zone config server zone.origin ≡ Some zone
-nearest_is_held config server name zone e = by (server_named config server) e where
-  by : (holder : Option Server) → option_and_then (λ holder. nearest holder name) holder ≡ Some zone → option_and_then (λ holder. zone_with_origin holder zone.origin) holder ≡ Some zone
-  by None e = cc
-  by (Some holder) e = held_from holder zone (longest (λ above. is_some (zone_with_origin holder above)) name) e
-
--- ---- a name server that isn't configured
 
 none_wanted : (below address : Bool) → (below && not address) ≡ false → (below && not (below && address)) ≡ false
 none_wanted false address so = refl

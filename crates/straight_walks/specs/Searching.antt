@@ -30,6 +30,7 @@ use Rattle.net_model.specs.declared.walk.State.{State}
 use Rattle.net_model.specs.declared.walk.Walk.{Walk}
 use Rattle.walk_laws.specs.Outcome.{HasOutcome, outcome_of}
 use Rattle.zone_tree.specs.Tree.{ZoneTree, IsNode, name_of}
+use Rattle.zone_lookup.specs.CutTable.{cut_to}
 use Rattle.zone_lookup.specs.Reply.{IsReply}
 use Rattle.zone_lookup.specs.ReferralFaults.{referral_faults}
 use Rattle.straight_walks.specs.Answers.{AnswerOwners, ZoneOwner, leaf_of, owner_leaf, zone_owner}
@@ -179,10 +180,6 @@ IsReferral config deps query cut (referral.GoesOn flags) =
     × ((setting : Setting) (above : ℕ) → IsSettingOf config deps setting
     → referred setting (state_at config query cut.server above) cut ≡ Go (Refer cut) (state_at config query cut.ns (length cut.cut)))
 IsReferral config deps query cut referral.Unclear = Unit {0}
-
--- the name server of a zone cut, in a referral from a server
-abbrev pub cut_to : Labels → Zone → Labels → Labels → Cut
-cut_to server zone cut ns = record { server = server; zone = zone.origin; cut = cut; ns = ns }
 
 -- the branches of a zone cut with these name servers, from a state
 abbrev pub to_servers : Zone → Labels → List Labels → Setting → State → List Branch

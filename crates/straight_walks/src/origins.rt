@@ -33,7 +33,7 @@ fn origin_set<'a>(alloc: Global, config: &'a Config) -> Result<BTreeSet<&'a Name
     ensures { IfOk result (λ origins. HasEachOrigin config.now (map (λ origin. origin.now) origins.keys)) }
 {
     let mut origins = BTreeSet::new(alloc);
-    for server in config.servers.items() {
+    for server in config.servers() {
         put_origins(&mut origins, server.zones.items())?;
     }
     Ok(origins)

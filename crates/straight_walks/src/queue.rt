@@ -70,7 +70,7 @@ fn all_states<'a>(
 {
     let config = hosts.config();
     let mut queue = Vec::new(alloc);
-    for top in config.tops.items() {
+    for top in config.tops() {
         queue.push(Queued::for_name(hosts, name, top, 0))?;
     }
     Ok(queue)

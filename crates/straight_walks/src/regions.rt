@@ -15,7 +15,6 @@ use crate::region::{Region, search_below};
 use crate::searching::Search;
 use dns_data::{Name, NoMemory};
 use std::alloc::Global;
-use std::cmp::Ordering;
 use zone_lookup::{CutTable, Hosts, LearntSets, TopServers, nearest_item};
 
 /// The origins of a configuration's zones, each with the states to which walks for the names below it come, as far as

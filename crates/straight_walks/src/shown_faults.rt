@@ -1,6 +1,6 @@
 //! The faults that a query shows whose walks go straight.
 
-ghost use Rattle.std.specs.Prelude.{◌≡◌, ◌++◌, take, IfOk, OnOk};
+ghost use Rattle.std.specs.Prelude.{◌≡◌, ◌++◌, IfOk, OnOk};
 ghost use Rattle.dns_data.specs.declared.rr_type.RrType.TheVariants as types;
 ghost use Rattle.graph_form.specs.Branches.{with_type};
 ghost use Rattle.graph_form.specs.Verdict.{AreFirstTypes};
@@ -11,7 +11,7 @@ ghost use Rattle.straight_walks.specs.Straight.{told_of};
 
 use crate::ends::StraightEnds;
 use crate::faulty::Faulty;
-use dns_data::{JoinFault, List, Name, NoMemory, RrType};
+use dns_data::{List, Name, NoMemory, RrType};
 use graph_form::{Seen, first_types};
 use net_model::{Cut, Fault};
 use std::alloc::Global;
@@ -84,20 +84,7 @@ fn cut_of(alloc: Global, query: &Name, one: &Faulty<'_>) -> Result<Cut, NoMemory
     Ok(Cut {
         server: one.server.copy(alloc)?,
         zone: one.zone.copy(alloc)?,
-        cut: front_of(alloc, query, one.cut as usize)?,
+        cut: query.copy_front(alloc, one.cut as usize)?,
         ns: one.ns.copy(alloc)?,
     })
-}
-
-/// The name of the first labels of a name, as many as asked for.
-fn front_of(alloc: Global, name: &Name, count: usize) -> Result<Name, NoMemory>
-    ensures { IfOk result (λ front. front ≡ take count name.now) }
-{
-    // The labels are read, so that it is known here that they have at most 255 octets.
-    let _ = name.labels();
-    match Name::root().join_labels(alloc, &name.front(count)) {
-        Ok(front) => Ok(front),
-        Err(JoinFault::NoMemory) => Err(NoMemory),
-        Err(JoinFault::TooLong) => unreachable!(),
-    }
 }

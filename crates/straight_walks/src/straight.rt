@@ -101,7 +101,7 @@ pub fn straight_ends<'h, 'a>(
 fn states_left(hosts: &Hosts<'_>, pairs: u32) -> Option<usize>
     ensures { IfSome result (λ left. (left + length hosts.now.tops) * 12 ≤ pairs) }
 {
-    let tops = hosts.config().tops.len();
+    let tops = hosts.config().tops().len();
     let most = pairs as usize / RrType::COUNT;
     if tops <= most {
         Some((most - tops).min(MOST))

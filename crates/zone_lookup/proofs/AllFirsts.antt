@@ -1,43 +1,46 @@
--- Where the firsts of all names are as many as the values, they are the values.
-use Rattle.std.proofs.Common.{◌≡◌, ◌≢◌, ◌∙◌, List, [], ◌∷◌, map, length, get_or, Contains, AllPairs, Some, Less, find, IsPermutation, sym, ap, subst, inl, inr, arith}
-use Rattle.std.specs.List.{remove}
+-- Where no two values have one name, the firsts of all names are the values.
+use Rattle.std.proofs.Common.{◌≡◌, ◌≢◌, ◌∙◌, Bool, true, false, cond, List, [], ◌∷◌, map, Contains, AllPairs, Option, Some, None, find, refl, sym, ap, subst, inl, inr}
 use Rattle.std.specs.Option.{option_map}
-use Rattle.std.proofs.lemmas.List.{get_or-map, length-map}
-use Rattle.std.proofs.lemmas.List.Sorted.{IsPermutation-refl, IsPermutation-trans, IsPermutation-cons, IsPermutation-remove, Contains-permutation, length_permutation}
-use Rattle.dns_data.specs.Name.{Labels, name_eq, name_cmp}
-use Rattle.dns_data.proofs.Membership.{has_first, has_later, first_or_later, pairs_first, pairs_rest, pairs_of_images, from_map}
-use Rattle.dns_data.proofs.NameOrder.{names_total, before_later}
-use Rattle.dns_data.proofs.OrderedLists.{never_before_itself}
+use Rattle.dns_data.specs.Name.{Labels, name_eq}
+use Rattle.dns_data.proofs.Membership.{none_in_nil, first_or_later, pairs_first, pairs_rest, from_map, map_has}
+use Rattle.dns_data.proofs.Names.{name_eq_decides}
 use Rattle.dns_data.proofs.Searches.{found_there}
 use Rattle.zone_lookup.specs.Firsts.{AreFirstsByName}
 use Rattle.zone_lookup.proofs.FirstsByName.{found_in_order}
 
--- items that differ from each other and are all in a list that is no longer are its items
-all_among : {X : Type 0} (xs ys : List X) → AllPairs (λ a b. a ≢ b) xs → ((x : X) → Contains xs x → Contains ys x)
-    → length xs ≡ length ys → IsPermutation ys xs
-all_among [] [] differ has many = IsPermutation-refl []
-all_among [] (y ∷ ys) differ has many = absurd (omega (arith, many))
-all_among (x ∷ xs) ys differ has many =
-    by (has x (has_first x xs)) (λ others all few. all_among xs others (pairs_rest (λ a b. a ≢ b) x xs differ) all few)
+-- what is mapped comes of an item
+pub mapped_some : {X Y : Type 0} (f : X → Y) (some : Option X) (y : Y) → option_map f some ≡ Some y → (x : X) × (some ≡ Some x) × (f x ≡ y)
+mapped_some f None y e = cc
+mapped_some f (Some x) y e = (x, refl, cc)
+
+-- a value is found by its name, where no other has that
+found_own : {Y : Type 0} (name_of : Y → Labels) (all : List Y) (y : Y) → AllPairs (λ a b. name_of a ≢ name_of b) all → Contains all y
+    → find (λ (one : Y). name_eq (name_of one) (name_of y)) all ≡ Some y
+found_own name_of [] y differ has = absurd (none_in_nil y has)
+found_own {Y} name_of (first ∷ rest) y differ has =
+    elim (first_or_later first rest y has) [
+      | inl same ↦
+          ap (λ (b : Bool). cond b (Some first) (find test rest)) ((name_eq_decides (name_of first) (name_of y)).1 (ap name_of same)) ∙ ap (λ (one : Y). Some one) same
+      | inr later ↦
+          ap (λ (b : Bool). cond b (Some first) (find test rest)) (not_one (pairs_first (λ a b. name_of a ≢ name_of b) first rest differ y later))
+          ∙ found_own name_of rest y (pairs_rest (λ a b. name_of a ≢ name_of b) first rest differ) later
+    ]
   where
-    by : Contains ys x → ((others : List _) → ((y : _) → Contains xs y → Contains others y) → length xs ≡ length others → IsPermutation others xs)
-        → IsPermutation ys (x ∷ xs)
-    by (k, below, is) rest =
-        let same : IsPermutation ys (x ∷ remove ys k) = IsPermutation-remove ys k x below (sym is) in
-        let left : IsPermutation (remove ys k) xs =
-        rest (remove ys k) (λ y later. elim (first_or_later x (remove ys k) y
-        (Contains-permutation ys (x ∷ remove ys k) y same (has y (has_later x xs y later)))) [
-          | inl e ↦ absurd (pairs_first (λ a b. a ≢ b) x xs differ y later e)
-          | inr behind ↦ behind
-        ]) (omega (arith, many, length_permutation ys (x ∷ remove ys k) same)) in
-        IsPermutation-trans ys (x ∷ remove ys k) (x ∷ xs) same (IsPermutation-cons x (remove ys k) xs left)
+    test : Y → Bool
+    test one = name_eq (name_of one) (name_of y)
+
+    not_one : name_of first ≢ name_of y → name_eq (name_of first) (name_of y) ≡ false
+    not_one apart = by (name_eq (name_of first) (name_of y)) refl where
+      by : (b : Bool) → name_eq (name_of first) (name_of y) ≡ b → b ≡ false
+      by true e = absurd (apart ((name_eq_decides (name_of first) (name_of y)).0 e))
+      by false e = refl
 
 module _ {X Y : Type 0} (tell : X → Y) (name_of : Y → Labels) (all : List Y) (items : List X) (are : AreFirstsByName tell name_of all items) where
   abbrev key : X → Labels
   key x = name_of (tell x)
 
   -- each of the firsts is one of the values
-  from_all : (y : Y) → Contains (map tell items) y → Contains all y
+  pub from_all : (y : Y) → Contains (map tell items) y → Contains all y
   from_all y has =
       let (x, among, is) = from_map tell items y has in
       let (place, below, at) = among in
@@ -46,18 +49,8 @@ module _ {X Y : Type 0} (tell : X → Y) (name_of : Y → Labels) (all : List Y)
       (found_there (λ (one : Y). name_eq (name_of one) (key x)) all y
       (sym (are.firsts (key x)) ∙ ap (option_map tell) found ∙ ap (λ (one : Y). Some one) is)).0
 
-  -- no two of them are one
-  differ : AllPairs (λ a b. a ≢ b) (map tell items)
-  differ =
-      pairs_of_images tell (λ a b. a ≢ b) items
-      (λ i j d before within same.
-      let last = key (get_or items j d) in
-      never_before_itself name_cmp names_total last
-      (subst (λ (y : Y). name_cmp (name_of y) last ≡ Less) same
-      (subst (λ (n : Labels). name_cmp n last ≡ Less) (get_or-map key items i d [] (omega (arith, before, within)))
-      (subst (λ (n : Labels). name_cmp (get_or (map key items) i []) n ≡ Less) (get_or-map key items j d [] within)
-      (before_later (map key items) are.ordered i j [] before (omega (arith, within, length-map items key)))))))
-
-  -- the first items by name are all items, if they are as many
-  pub all_firsts : length items ≡ length all → IsPermutation all (map tell items)
-  all_firsts many = all_among (map tell items) all differ from_all (omega (arith, length-map items tell, many))
+  -- and each of the values is one of the firsts, where no two have one name
+  pub has_all : AllPairs (λ a b. name_of a ≢ name_of b) all → (y : Y) → Contains all y → Contains (map tell items) y
+  has_all differ y has =
+      let (x, found, is) = mapped_some tell (find (λ (item : X). name_eq (key item) (name_of y)) items) y (are.firsts (name_of y) ∙ found_own name_of all y differ has) in
+      subst (Contains (map tell items)) is (map_has tell items x (found_there (λ (item : X). name_eq (key item) (name_of y)) items x found).0)

@@ -1,14 +1,11 @@
 -- Tables of what referrals show: what their rows tell of the zones that servers hold.
-use Rattle.std.proofs.Common.{◌≡◌, ◌<◌, ◌≤◌, ◌+◌, ℕ, Less, Greater, is_eq, inl, inr, arith, Bool, true, false, cond, List, [], ◌∷◌, ◌++◌, map, Option, Some, None, sym, refl, ap, ◌∙◌, subst}
-use Rattle.std.specs.Prelude.{◌&&◌, option_and_then}
-use Rattle.std.specs.List.{AllByRecursion, AllZip, list_any}
-use Rattle.std.specs.Option.{option_map}
+use Rattle.std.proofs.Common.{◌≡◌, ◌<◌, ◌≤◌, ◌+◌, ℕ, Less, Greater, is_eq, inl, inr, arith, Bool, true, false, cond, List, [], ◌∷◌, ◌++◌, map, Some, None, sym, refl, ap, ◌∙◌, subst}
+use Rattle.std.specs.Prelude.{option_and_then}
+use Rattle.std.specs.List.{AllByRecursion, AllZip}
 use Rattle.std.specs.Cmp.{nat_cmp_is}
-use Rattle.std.proofs.lemmas.Bool.{and_parts, cases_lt, or_cases}
-use Rattle.std.proofs.lemmas.List.Elements.{Contains-get_or}
+use Rattle.std.proofs.lemmas.Bool.{cases_lt}
 use Rattle.std.proofs.lemmas.Option.{option_and_then_some}
-use Rattle.dns_data.specs.Name.{Labels, is_prefix, name_cmp, name_eq}
-use Rattle.dns_data.proofs.NameFronts.{begins_itself}
+use Rattle.dns_data.specs.Name.{Labels, name_cmp, name_eq}
 use Rattle.dns_data.proofs.NameOrder.{names_total}
 use Rattle.dns_data.proofs.Names.{name_eq_decides}
 use Rattle.dns_data.proofs.OrderedLists.{same_rising}
@@ -26,6 +23,7 @@ use Rattle.zone_lookup.specs.CutTable.{AreRowsOf, HostRow, IsHostRow, IsPut, IsT
 use Rattle.zone_lookup.specs.Hosts.{AreTreesOf}
 use Rattle.zone_lookup.specs.Named.{item_named}
 use Rattle.zone_lookup.specs.declared.cut_flags.CutFlags.{CutFlags}
+use Rattle.zone_lookup.proofs.AllFirsts.{mapped_some}
 
 module _ {X Y : Type 0} (R : X → Y → Type 0) (name_of_x : X → Labels) (name_of_y : Y → Labels) (same : (x : X) (y : Y) → R x y → name_of_y y ≡ name_of_x x) (name : Labels) where
   -- beside the item of a name stands the one of that name in the other list
@@ -47,23 +45,6 @@ module _ {X Y : Type 0} (R : X → Y → Type 0) (name_of_x : X → Labels) (nam
     by false e found rest =
         let later = rest found in
         (later.0, ap (λ (b : Bool). cond b (Some other) (item_named name_of_y ys name)) (test ∙ e) ∙ later.1, later.2)
-
--- what is mapped comes of an item
-mapped_some : {X Y : Type 0} (f : X → Y) (some : Option X) (y : Y) → option_map f some ≡ Some y → (x : X) × (some ≡ Some x) × (f x ≡ y)
-mapped_some f None y e = cc
-mapped_some f (Some x) y e = (x, refl, cc)
-
--- the name of a whole tree's node is at or below the origin
-pub node_inside : (tree : ZoneTree) (node : ℕ) → IsWholeTree tree → IsNode tree node → is_prefix tree.zone.origin (name_of tree node) ≡ true
-node_inside tree node whole within =
-    let name = name_of tree node in
-    elim (or_cases (name_eq name tree.zone.origin) (is_prefix tree.zone.origin name && list_any (λ rr. is_prefix name rr.owner) tree.zone.rrs)
-    ((whole.names name).0 (Contains-get_or tree.names node [] within))) [
-      | inl origin ↦ (
-          let same : name ≡ tree.zone.origin = (name_eq_decides name tree.zone.origin).0 origin in
-          subst (λ (x : Labels). is_prefix tree.zone.origin x ≡ true) (sym same) (begins_itself tree.zone.origin))
-      | inr beneath ↦ (and_parts (is_prefix tree.zone.origin name) (list_any (λ rr. is_prefix name rr.owner) tree.zone.rrs) beneath).0
-    ]
 
 -- whole trees of one zone are one
 pub one_tree : (a b : ZoneTree) → IsWholeTree a → IsWholeTree b → a.zone ≡ b.zone → a ≡ b

@@ -30,13 +30,13 @@ same_test : (key name : Labels) → name_eq key name ≡ is_eq (name_cmp name ke
 same_test key name = (lists_equiv nat_list_eq_equiv).symm key name ∙ lists_ties label_cmp texts_ties name key
 
 -- a borrowed name that stands before others stands so as what it borrows
-pub all_rise : (key : Bor Labels) (keys : List (Bor Labels)) → AllByRecursion (λ (other : Bor Labels). borrowed_cmp key other ≡ Less) keys
+all_rise : (key : Bor Labels) (keys : List (Bor Labels)) → AllByRecursion (λ (other : Bor Labels). borrowed_cmp key other ≡ Less) keys
     → AllByRecursion (λ (other : Labels). name_cmp key.now other ≡ Less) (map (λ (k : Bor Labels). k.now) keys)
 all_rise key [] rise = tt
 all_rise key (other ∷ keys) rise = (rise.0, all_rise key keys rise.1)
 
 -- the names of keys in order are in order
-names_rise : (keys : List (Bor Labels)) → IsStrictlySortedBy borrowed_cmp keys → IsStrictlySortedBy name_cmp (map (λ (k : Bor Labels). k.now) keys)
+pub names_rise : (keys : List (Bor Labels)) → IsStrictlySortedBy borrowed_cmp keys → IsStrictlySortedBy name_cmp (map (λ (k : Bor Labels). k.now) keys)
 unfolding IsStrictlySortedBy
 names_rise [] sorted = tt
 names_rise (key ∷ keys) sorted = (all_rise key keys sorted.0, names_rise keys sorted.1)

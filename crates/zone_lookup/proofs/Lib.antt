@@ -1,4 +1,4 @@
-mod AllFirsts
+pub mod AllFirsts
 mod CutTables
 pub mod CutsInside
 pub mod FirstsByName

@@ -1,4 +1,5 @@
--- A name rests if its walks end at the top servers, where they begin: which walks it has, and whether its address is learnt.
+-- A name rests if its walks end at the top servers, where they begin: which walks it has, and whether its address is
+-- learnt.
 use Rattle.std.proofs.Common.{◌≡◌, ℕ, ◌*◌, ◌≤◌, Bool, true, false, cond, List, [], ◌∷◌, ◌++◌, length, map, filter, Contains, Option, None, Some, Bor, Ordering, Less, Equal, Greater, lt-ltb, true≢false, inl, inr, refl, sym, ap, ◌∙◌, subst, arith, length-append}
 use Rattle.std.specs.Prelude.{◌||◌, nat_lt, is_some, IsSome}
 use Rattle.std.specs.List.{AllByRecursion, flat_map, list_any}

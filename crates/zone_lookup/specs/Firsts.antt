@@ -1,5 +1,4 @@
--- Of several values with one name the first: in a list in the order of names, and in a map by names. The contracts of inner
--- calls alone cite it.
+-- Of several values with one name the first: in a list in the order of names, and in a map by names.
 use Rattle.std.specs.Prelude.{◌≡◌, List, map}
 use Rattle.std.specs.Borrow.{Bor}
 use Rattle.std.specs.BTreeMap.{BTreeMap}

@@ -1,5 +1,4 @@
--- The trees of a server's zones and the servers of a configuration in the order of names, each once. The contracts of inner
--- calls alone cite it.
+-- The trees of a server's zones and the servers of a configuration in the order of names, each once.
 use Rattle.std.specs.Prelude.{List, Option}
 use Rattle.dns_data.specs.Name.{Labels}
 use Rattle.net_model.specs.declared.config.Server.{Server}

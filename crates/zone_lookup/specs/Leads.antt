@@ -1,5 +1,5 @@
--- Where a referral leads: to a name server that isn't configured, whose address isn't known, or that has no zone at or below
--- the zone cut for the name, so that walks end there; or on to its zone.
+-- Where a referral leads: to a name server that isn't configured, whose address isn't known, or that has no zone at or
+-- below the zone cut for the name, so that walks end there; or on to its zone.
 use Rattle.std.specs.Prelude.{◌≡◌, true, false, length, Some}
 use Rattle.dns_data.specs.Name.{Labels, is_prefix}
 use Rattle.net_model.specs.declared.config.Zone.{Zone}

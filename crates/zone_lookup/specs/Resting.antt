@@ -24,8 +24,8 @@ pub record Rests (config : Config) (name : Labels) (learnt : Bool) : Type 0 wher
   pub learns : (rewrites : ℕ) (followed : List Labels) → (learnt ≡ true) ↔ Learns (following config rewrites followed) name
 
 -- The walks of the name that begin at the server, or at another that looks it up in the same zone, end there, whichever
--- servers are followed; it's told whether one with an address type gives an address. The contracts of inner calls alone cite
--- what follows.
+-- servers are followed; it's told whether one with an address type gives an address. The contracts of inner calls alone
+-- cite what follows.
 pub record EndsAt (config : Config) (name server : Labels) (gives : Bool) : Type 0 where
   pub leaf : RrType → Leaf
   pub ends : (other : Labels) → nearest_of config other name ≡ nearest_of config server name → (rewrites : ℕ) (followed : List Labels) (rtype : RrType)

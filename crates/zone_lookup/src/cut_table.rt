@@ -58,8 +58,8 @@ impl<'a> Model for HostCuts<'a> {
     ghost invariant = { λ row. IsStrictlySortedBy name_cmp (map (λ zone. zone.origin) row.zones.items) };
 }
 
-/// What the referrals of the zone cuts of a configuration show, told once for each name server of each cut. A zone cut takes
-/// no memory where its referrals show no fault and the address of each name server is known that is configured.
+/// What the referrals of the zone cuts of a configuration show, told once for each name server of each cut. A zone cut
+/// takes no memory where its referrals show no fault and the address of each name server is known that is configured.
 #[derive(Drop)]
 pub struct CutTable<'a> {
     hosts: Vec<HostCuts<'a>>,

@@ -36,7 +36,7 @@ impl<'a> Hosts<'a> {
         requires { is_prefix cut.zone.now cut.cut.now ≡ true }
         ensures { result ≡ (is_top self.now cut.entry.ns.now || has_glue self.now (cut_of cut.entry)) }
     {
-        is_among(self.config().tops.items(), cut.ns) || self.has_glue(cut)
+        is_among(self.config().tops(), cut.ns) || self.has_glue(cut)
     }
 
     /// Whether the name server has glue in the referral: it is at or below the zone cut, and the referring zone holds an

@@ -1,6 +1,6 @@
 //! Servers with the trees of their zones.
 
-ghost use Rattle.std.specs.Prelude.{◌≡◌, true, length, map, IsPermutation, IfOk, IfSome};
+ghost use Rattle.std.specs.Prelude.{◌≡◌, true, IfOk, IfSome};
 ghost use Rattle.std.specs.Option.{option_map};
 ghost use Rattle.dns_data.specs.Name.{is_prefix};
 ghost use Rattle.net_model.specs.Nearest.{server_named, zone_with_origin, held_zone, nearest, nearest_of};
@@ -37,7 +37,7 @@ impl<'a> Hosts<'a> {
     pub fn build(alloc: Global, config: &'a Config) -> Result<Hosts<'a>, NoMemory>
         ensures { IfOk result (λ hosts. hosts ≡ config.now) }
     {
-        let hosts = firsts_in_order(alloc, config.servers.items())?;
+        let hosts = firsts_in_order(alloc, config.servers())?;
         Ok(Hosts { config, hosts })
     }
 
@@ -48,21 +48,14 @@ impl<'a> Hosts<'a> {
         self.config
     }
 
-    /// The servers, in the order of their names, or `None` where two of them have one name.
-    pub fn hosts(&self) -> Option<&[Host<'a>]>
-        ensures { IfSome result (λ hosts. IsPermutation self.now.servers hosts.now) }
-    {
-        if_as_many(self.hosts.as_slice(), self.config.servers.items().len())
-    }
-
-    /// The first servers of each name, in the order of their names.
-    pub(crate) fn in_order(&self) -> &[Host<'a>]
+    /// The servers, in the order of their names.
+    pub fn in_order(&self) -> &[Host<'a>]
         ensures { AreHostsOf self.now.servers result.now }
     {
         self.hosts.as_slice()
     }
 
-    /// The configured server of this name, the first of several.
+    /// The configured server of this name.
     pub fn host(&self, name: &Name) -> Option<&Host<'a>>
         ensures { option_map (λ host. host.now) result ≡ server_named self.now name.now }
     {
@@ -103,7 +96,7 @@ impl<'a> Hosts<'a> {
         }
     }
 
-    /// The configured server of this name, the first of several. The one at a place is looked at first.
+    /// The configured server of this name. The one at a place is looked at first.
     fn host_near(&self, near: usize, name: &Name) -> Option<&Host<'a>>
         ensures { option_map (λ host. host.now) result ≡ server_named self.now name.now }
     {
@@ -157,21 +150,14 @@ impl<'a> Host<'a> {
     }
 
     /// The server.
-    pub fn server(&self) -> &'a Server
+    pub(crate) fn server(&self) -> &'a Server
         ensures { result.now ≡ self.now }
     {
         self.server
     }
 
-    /// The trees of the server's zones, in the order of their origins, or `None` where two of them have one origin.
-    pub fn trees(&self) -> Option<&[Tree<'a>]>
-        ensures { IfSome result (λ trees. IsPermutation self.now.zones (map (λ tree. tree.zone) trees.now)) }
-    {
-        if_as_many(self.trees.as_slice(), self.server.zones.items().len())
-    }
-
-    /// The trees of the server's first zones of each origin, in the order of their origins.
-    pub(crate) fn in_order(&self) -> &[Tree<'a>]
+    /// The trees of the server's zones, in the order of their origins.
+    pub fn in_order(&self) -> &[Tree<'a>]
         ensures { AreTreesOf self.now.zones result.now }
     {
         self.trees.as_slice()
@@ -206,29 +192,18 @@ impl<'a> Host<'a> {
         near_of(self.trees.as_slice(), name)
     }
 
-    /// The tree of the server's zone with this origin, the first of several.
+    /// The tree of the server's zone with this origin.
     pub(crate) fn zone_with_origin(&self, origin: &Name) -> Option<&Tree<'a>>
         ensures { option_map (λ tree. tree.now.zone) result ≡ zone_with_origin self.now origin.now }
     {
         self.tree_of(&origin.labels())
     }
 
-    /// The tree of the server's zone whose origin has these labels, the first of several.
+    /// The tree of the server's zone whose origin has these labels.
     fn tree_of(&self, origin: &Labels<'_>) -> Option<&Tree<'a>>
         ensures { option_map (λ tree. tree.now.zone) result ≡ zone_with_origin self.now origin.now }
     {
         item_named(self.trees.as_slice(), origin)
-    }
-}
-
-/// The items, if there are this many.
-fn if_as_many<T>(items: &[T], count: usize) -> Option<&[T]>
-    ensures { IfSome result (λ all. (all.now ≡ items.now) × (length items.now ≡ count)) }
-{
-    if items.len() == count {
-        Some(items)
-    } else {
-        None
     }
 }
 

@@ -2,10 +2,10 @@
 //! and the learnt addresses tell of a referral and of a name.
 //!
 //! The layer above may rest on this: `reply_of` gives what decides at a name in the zone in which a server looks it up,
-//! and `Walker::leads` where a referral to a name server leads, as the definitions do; neither takes memory. `next_steps`
-//! gives the steps of a state by its server's reply, and `steps_of` those of a state, as the definition `next` does.
-//! `Hosts` finds a server, a zone by its origin and the nearest zone of a name as the definitions do, and tells which
-//! name servers may be followed. It gives all servers, and a server all trees, where no two have one name or one origin.
+//! and `Walker::leads` where a referral to a name server leads, as the definitions do; neither takes memory.
+//! `next_steps` gives the steps of a state by its server's reply, and `steps_of` those of a state, as the definition
+//! `next` does. `Hosts` finds a server, a zone by its origin and the nearest zone of a name as the definitions do, and
+//! tells which name servers may be followed; it gives all servers in the order of their names, and a server all trees.
 //! `starts` gives the states in which a query begins. `find` answers as the definition `found` does, and `split_types`
 //! and `split_by` put the types of a set together that go the same way. `TopServers` gives the top servers that hold a
 //! zone for a name; of a name whose walks end there `learnt_at_tops` tells whether its address is learnt.
@@ -67,7 +67,7 @@ pub use named::{Named, nearest_item};
 pub use referral_faults::put_cut_faults;
 pub use reply::{Reply, reply_in, reply_near, reply_of};
 pub use resting::learnt_at_tops;
-pub use rewrites::starts;
+pub use rewrites::{arrived, starts};
 pub use steps::{Step, next_steps, steps_of};
 pub use tops::TopServers;
 pub use walker::Walker;

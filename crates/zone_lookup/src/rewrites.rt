@@ -22,7 +22,7 @@ pub fn starts(
 ) -> Result<List<Boxed<State>>, NoMemory>
     ensures { IfOk result (λ states. states ≡ start hosts.now query.now) }
 {
-    let tops = hosts.config().tops.items();
+    let tops = hosts.config().tops();
     let mut states = Vec::with_capacity(alloc, tops.len())?;
     for server in tops {
         let state = arrived(alloc, hosts, query, true, 0, server)?;
@@ -66,7 +66,7 @@ fn rewrites_at_tops(
     requires { state.now.used + 1 < 2 ^ 32 }
     ensures { IfOk result (λ steps. map branch_of steps ≡ map (λ server. Go (hop_as.Rewrite place.now by_dname to.now) (arrived hosts.now to.now (state.now.carried && by_dname) (state.now.used + 1) (Some place.now) server)) hosts.now.tops) }
 {
-    let tops = hosts.config().tops.items();
+    let tops = hosts.config().tops();
     let mut steps = Vec::with_capacity(alloc, tops.len())?;
     for server in tops {
         steps.push(rewrite(alloc, hosts, state, place, by_dname, to, server)?)?;
@@ -171,8 +171,9 @@ fn rewritten(
     Boxed::new(alloc, made)
 }
 
-/// The state at a server to which neither a zone cut nor a rewrite led.
-fn arrived(
+/// The state at a server to which neither a zone cut nor a rewrite led, with so many rewrites used; `carried` says whether
+/// no CNAME record was followed yet.
+pub fn arrived(
     alloc: Global,
     hosts: &Hosts<'_>,
     name: &Name,

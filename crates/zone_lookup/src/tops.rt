@@ -1,6 +1,6 @@
 //! The top servers that hold a zone for a name.
 
-ghost use Rattle.std.specs.Prelude.{◌≡◌, ◌∷◌, ◌++◌, ◌+◌, ◌⊎◌, ◌↔◌, [], ℕ, false, true, length, map, take, slice_get, Contains, IfOk, OnOk};
+ghost use Rattle.std.specs.Prelude.{◌≡◌, ◌∷◌, ◌++◌, ◌+◌, ◌⊎◌, ◌↔◌, [], ℕ, false, true, length, map, slice_get, Contains, IfOk, OnOk};
 ghost use Rattle.std.specs.List.{filter_map};
 ghost use Rattle.dns_data.specs.Listed.{places_of};
 ghost use Rattle.dns_data.specs.Name.{Labels, name_eq};
@@ -9,7 +9,7 @@ ghost use Rattle.zone_lookup.specs.Tops.{HasLike, HoldsThese, IsListedAbove, IsL
 
 use crate::hosts::Hosts;
 use crate::same_zones::are_same;
-use dns_data::{JoinFault, List, Name, NoMemory};
+use dns_data::{List, Name, NoMemory};
 use net_model::{Config, Zone};
 use std::alloc::Global;
 use std::collections::{BTreeMap, BTreeSet};
@@ -47,7 +47,7 @@ impl<'a> TopServers<'a> {
         let config = hosts.config();
         let mut tops = Vec::new(alloc);
         let mut places = BTreeMap::new(alloc);
-        for top in config.tops.items() {
+        for top in config.tops() {
             list_top(alloc, hosts, top, &mut tops, &mut places)?;
         }
         Ok(TopServers {
@@ -57,16 +57,16 @@ impl<'a> TopServers<'a> {
         })
     }
 
-    /// Top servers that stand for all: a top server is left out whose zones are the same, record by record, as those of one of
-    /// the last few that were listed for the origin of its first zone. Walks begin alike at both, so that of thousands of top
-    /// servers that hold one zone a single one is asked for each name. Nothing else is left out.
+    /// Top servers that stand for all: a top server is left out whose zones are the same, record by record, as those of one
+    /// of the last few that were listed for the origin of its first zone. Walks begin alike at both, so that of thousands
+    /// of top servers that hold one zone a single one is asked for each name. Nothing else is left out.
     pub fn unlike(alloc: Global, hosts: &Hosts<'a>) -> Result<TopServers<'a>, NoMemory>
         ensures { IfOk result (StandsForTops hosts.now) }
     {
         let config = hosts.config();
         let mut tops = Vec::new(alloc);
         let mut places = BTreeMap::new(alloc);
-        for top in config.tops.items() {
+        for top in config.tops() {
             if !has_like(hosts, tops.as_slice(), &places, top) {
                 list_top(alloc, hosts, top, &mut tops, &mut places)?;
             }
@@ -107,7 +107,7 @@ fn places_above(
 {
     let mut found = BTreeSet::new(alloc);
     for count in 0..name.len() as usize + 1 {
-        let front = front_of(alloc, name, count)?;
+        let front = name.copy_front(alloc, count)?;
         put_places(&mut found, listed_for(places, &front))?;
     }
     Ok(found)
@@ -151,8 +151,8 @@ fn list_top<'a>(
     Ok(())
 }
 
-/// Whether one of the listed servers is seen to hold the same zones as this one: one of the last few that are listed for the
-/// origin of its first zone. What the places say is tried, never trusted.
+/// Whether one of the listed servers is seen to hold the same zones as this one: one of the last few that are listed for
+/// the origin of its first zone. What the places say is tried, never trusted.
 fn has_like(
     hosts: &Hosts<'_>,
     tops: &[&Name],
@@ -249,17 +249,4 @@ fn tops_at<'a>(
         }
     }
     Ok(found)
-}
-
-/// The name of the first labels of a name, as many as asked for.
-fn front_of(alloc: Global, name: &Name, count: usize) -> Result<Name, NoMemory>
-    ensures { IfOk result (λ front. front ≡ take count name.now) }
-{
-    // The labels are read, so that it is known here that they have at most 255 octets.
-    let _ = name.labels();
-    match Name::root().join_labels(alloc, &name.front(count)) {
-        Ok(front) => Ok(front),
-        Err(JoinFault::NoMemory) => Err(NoMemory),
-        Err(JoinFault::TooLong) => unreachable!(),
-    }
 }

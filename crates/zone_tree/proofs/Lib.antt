@@ -1,7 +1,7 @@
 mod ByText
 mod DecidersAbove
 mod Descents
-mod Existing
+pub mod Existing
 mod FrontDeciders
 mod InPlace
 mod KeyedRecords

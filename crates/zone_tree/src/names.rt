@@ -1,10 +1,10 @@
 //! The existing names of a zone.
 
-ghost use Rattle.std.specs.Prelude.{◌≡◌, ◌∷◌, ◌++◌, take, map, IfOk, OnOk};
+ghost use Rattle.std.specs.Prelude.{◌≡◌, ◌∷◌, ◌++◌, map, IfOk, OnOk};
 ghost use Rattle.zone_tree.specs.Names.{new_prefixes, tree_after, AreExisting};
 ghost use Rattle.zone_tree.specs.Owners.{AreByOwner};
 
-use dns_data::{JoinFault, Name, NoMemory, Rr};
+use dns_data::{Name, NoMemory, Rr};
 use net_model::Zone;
 use std::alloc::Global;
 
@@ -43,20 +43,7 @@ fn push_new(
 {
     let shared = name.labels().common_len(&before.labels()) as usize;
     for count in shared + 1..name.len() as usize + 1 {
-        names.push(front_of(alloc, name, count)?)?;
+        names.push(name.copy_front(alloc, count)?)?;
     }
     Ok(())
-}
-
-/// The name of the first labels of a name, as many as asked for.
-fn front_of(alloc: Global, name: &Name, count: usize) -> Result<Name, NoMemory>
-    ensures { IfOk result (λ front. front ≡ take count name.now) }
-{
-    // The labels are read, so that it is known here that they have at most 255 octets.
-    let _ = name.labels();
-    match Name::root().join_labels(alloc, &name.front(count)) {
-        Ok(front) => Ok(front),
-        Err(JoinFault::NoMemory) => Err(NoMemory),
-        Err(JoinFault::TooLong) => unreachable!(),
-    }
 }

@@ -1,6 +1,6 @@
 -- What goes wrong where one condition of a part isn't met. For each there are a configuration and held names that meet all
--- others (`only_..`), and so are no part (`not_..`); and a local name that what is left treats otherwise than the whole, or a
--- foreign one that it names.
+-- others (`only_..`), and so are no part (`not_..`); and a local name that what is left treats otherwise than the whole, or
+-- a foreign one that it names.
 use Rattle.std.proofs.Common.{◌≡◌, ◌≢◌, refl, sym, ◌∙◌, true, false, true≢false, List, [], ◌∷◌, Some, Contains, arith, append-nil}
 use Rattle.std.specs.Prelude.{codes}
 use Rattle.dns_data.specs.Name.{Labels, name_eq, is_among}

@@ -7,7 +7,7 @@ use Rattle.address_deps.proofs.sets.all_servers.Goals as goal
 
 pub loop-server-preserved : goal.loop-server-preserved
 loop-server-preserved c = λ name.
-    let servers = c.items-server-items.result.now in
+    let servers = c.servers-server-items.result.now in
     let index = c.loop-server.server-index in
     let server = c.server-item.result in
     let names = map (λ (s : Server). s.name) (take index servers) in

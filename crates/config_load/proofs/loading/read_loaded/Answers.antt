@@ -26,6 +26,6 @@ returns g c =
     let tops = c.in_ok-found.found.tops in
     let rows = c.in_ok-rows.rows.rows in
     let answer : Result ReadRows LoadFault = Ok c.in_ok-rows.rows in
-    subst (λ (servers : List Server). let all : Result Loaded LoadFault = Ok (record { config = record { tops = tops; servers = servers }; rows = rows }) in HasAnswered (g.F.Files.told c.args.files.now) (g.F.Files.told c.read_rows.new.files) (g.F.Files.faults c.args.files.now) (g.F.Files.faults c.read_rows.new.files) (loaded_within c.args.limits meta) all) (sym c.into_list.ensures)
+    subst (λ (servers : List Server). let all : Result Loaded LoadFault = Ok (record { config = record { tops = tops; servers = servers }; rows = rows }) in HasAnswered (g.F.Files.told c.args.files.now) (g.F.Files.told c.read_rows.new.files) (g.F.Files.faults c.args.files.now) (g.F.Files.faults c.read_rows.new.files) (loaded_within c.args.limits meta) all) (sym c.into_list-servers.ensures.value)
     (HasAnswered-loaded c.args.limits meta c.in_ok-found.found c.in_ok-rows.rows c.in_ok-found.ensures.reads
     (subst (λ (all : List MetaRow). HasAnswered (g.F.Files.told c.read_meta.new.files) (g.F.Files.told c.read_rows.new.files) (g.F.Files.faults c.read_meta.new.files) (g.F.Files.faults c.read_rows.new.files) (with_rows meta 1 all (no_rows c.args.limits)) answer) c.items.ensures c.in_ok-rows.ensures))

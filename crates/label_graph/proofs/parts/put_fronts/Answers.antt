@@ -44,8 +44,8 @@ loop-count-init c front = (λ has. inl has, λ either. elim either [ inl has ↦
 
 pub loop-count-preserved : goal.loop-count-preserved
 loop-count-preserved c =
-    let counted = counted_more c.args.name.now c.args.from c.loop-count.count c.args.names.now.items c.loop-count.names.items c.in_ok-front_of.field-0
-    c.loop-count.auto.count (omega (arith, c.loop-count-test.true, c.len.ensures.value)) c.in_ok-front_of.ensures c.loop-count.invariant in
+    let counted = counted_more c.args.name.now c.args.from c.loop-count.count c.args.names.now.items c.loop-count.names.items c.in_ok-copy_front.field-0
+    c.loop-count.auto.count (omega (arith, c.loop-count-test.true, c.len.ensures.value)) c.in_ok-copy_front.ensures c.loop-count.invariant in
     rw c.in_ok-push.ensures.items counted
 
 pub returns : goal.returns

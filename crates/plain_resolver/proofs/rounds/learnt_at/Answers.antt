@@ -17,7 +17,7 @@ returns-in_err-tolds-2-clause-passed c = λ name is.
     let inv = c.loop-round.invariant in
     record {
       before = c.loop-round._round;
-      is_round = omega (arith, c.loop-round-test.true, ap (λ (ss : List Server). length ss) c.items-round-end.ensures, ap (λ (x : Config). length x.servers) c.config-config.ensures);
+      is_round = omega (arith, c.loop-round-test.true, ap (λ (ss : List Server). length ss) c.servers-round-end.ensures.servers, ap (λ (x : Config). length x.servers) c.config-config.ensures);
       none_earlier = inv.few;
       followed = c.loop-round.followed.names;
       after = inv.after;
@@ -43,7 +43,7 @@ returns-then-eq-clause-rounds c =
     let itself : IsRound config c.args.rewrites followed followed = subst (IsRound config c.args.rewrites followed) same round in
     subst (AfterRounds config c.args.rewrites (length config.servers) c.args.from.now) (sym same)
     (stays config c.args.rewrites c.args.from.now followed itself c.loop-round._round (length config.servers)
-    (omega (arith, c.loop-round-test.true, ap (λ (ss : List Server). length ss) c.items-round-end.ensures, ap (λ (x : Config). length x.servers) c.config-config.ensures)) inv.after)
+    (omega (arith, c.loop-round-test.true, ap (λ (ss : List Server). length ss) c.servers-round-end.ensures.servers, ap (λ (x : Config). length x.servers) c.config-config.ensures)) inv.after)
 
 pub returns-then-eq-clause-few : goal.returns-then-eq-clause-few
 returns-then-eq-clause-few c =
@@ -88,5 +88,5 @@ loop-round-preserved c =
 pub returns-clause-few : goal.returns-clause-few
 returns-clause-few c =
     subst (NoneInRounds c.args.hosts.now c.args.rewrites c.args.most c.args.from.now)
-    (let end : c.loop-round._round ≡ length c.args.hosts.now.servers = omega (arith, c.loop-round-test.false, c.loop-round.auto._round-end, ap (λ (ss : List Server). length ss) c.items-round-end.ensures, ap (λ (x : Config). length x.servers) c.config-config.ensures) in end)
+    (let end : c.loop-round._round ≡ length c.args.hosts.now.servers = omega (arith, c.loop-round-test.false, c.loop-round.auto._round-end, ap (λ (ss : List Server). length ss) c.servers-round-end.ensures.servers, ap (λ (x : Config). length x.servers) c.config-config.ensures) in end)
     c.loop-round.invariant.few

@@ -12,7 +12,7 @@ returns-clause-few c =
     let config = c.args.hosts.now in
     let name = c.args.name.now in
     let fits : length config.tops ≤ c.args.most =
-    omega (arith, c.if-items-most.false, ap (λ (tops : List Labels). length tops) c.items.ensures, ap (λ (x : Config). length x.tops) c.config.ensures) in
+    omega (arith, c.if-tops-most.false, ap (λ (tops : List Labels). length tops) c.tops.ensures, ap (λ (x : Config). length x.tops) c.config.ensures) in
     IfOk-weaker c.learnt_at_tops.result _ _
     (λ told so. IfSome_then told so
     (λ learnt rests rewrites followed many. elim many [

@@ -1,6 +1,6 @@
 use Rattle.std.proofs.Common.{sym}
 use Rattle.zone_tree.specs.Tree.{name_of}
-use Rattle.straight_walks.specs.Searching.{cut_to}
+use Rattle.zone_lookup.specs.CutTable.{cut_to}
 use Rattle.straight_walks.proofs.Unhosted.{unhosted_ends}
 use Rattle.straight_walks.proofs.name_server.ends_outside.Goals as goal
 

@@ -3,7 +3,8 @@ use Rattle.std.specs.List.Sorted.{IsStrictlySortedBy}
 use Rattle.std.proofs.lemmas.Result.{IfOk-weaker}
 use Rattle.dns_data.specs.Name.{Labels, name_cmp}
 use Rattle.straight_walks.specs.Regions.{HasEachOrigin}
-use Rattle.straight_walks.proofs.OriginSets.{names_of, names_rise}
+use Rattle.zone_lookup.proofs.FirstsByName.{names_rise}
+use Rattle.straight_walks.proofs.OriginSets.{names_of}
 use Rattle.straight_walks.proofs.origins.origins_of.Goals as goal
 
 pub returns-clause-ordered : goal.returns-clause-ordered

@@ -5,10 +5,10 @@ use Rattle.net_model.specs.Zone.{ns_names}
 use Rattle.net_model.specs.declared.config.Zone.{Zone}
 use Rattle.net_model.specs.declared.place.Cut.{Cut}
 use Rattle.zone_tree.specs.Tree.{name_of}
-use Rattle.zone_lookup.specs.CutTable.{IsToldOf, referrals_at, told_in}
+use Rattle.zone_lookup.specs.CutTable.{IsToldOf, cut_to, referrals_at, told_in}
 use Rattle.zone_lookup.specs.declared.cut_flags.CutFlags.{CutFlags}
 use Rattle.straight_walks.specs.Faulty.{AreToldOf, flags_at}
-use Rattle.straight_walks.specs.Searching.{AreReferrals, IsFaultyPut, IsReferral, Known, cut_to, state_at, queued_state}
+use Rattle.straight_walks.specs.Searching.{AreReferrals, IsFaultyPut, IsReferral, Known, state_at, queued_state}
 use Rattle.straight_walks.specs.declared.name_server.Referral.TheVariants as referral
 use Rattle.straight_walks.proofs.GoingOn.{no_referrals, one_name_more, one_that_ends, one_to_go_to, referral_at}
 use Rattle.straight_walks.proofs.ToldFlags.{told_at}

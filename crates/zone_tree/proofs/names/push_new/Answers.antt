@@ -26,11 +26,11 @@ loop-count-preserved c =
     let items = c.loop-count.names.items in
     let many = length-prefixes name in
     let within : count < length (prefixes name) = omega (arith, c.len.ensures.value) in
-    let next : drop count (prefixes name) ≡ c.in_ok-front_of.field-0 ∷ drop (count + 1) (prefixes name) =
+    let next : drop count (prefixes name) ≡ c.in_ok-copy_front.field-0 ∷ drop (count + 1) (prefixes name) =
     drop_more (prefixes name) count [] within
-    ∙ ap (λ (x : Labels). x ∷ drop (count + 1) (prefixes name)) (prefix_at name count [] (omega arith) ∙ sym c.in_ok-front_of.ensures) in
+    ∙ ap (λ (x : Labels). x ∷ drop (count + 1) (prefixes name)) (prefix_at name count [] (omega arith) ∙ sym c.in_ok-copy_front.ensures) in
     rw (c.in_ok-push.ensures.items)
-    (append_assoc items (c.in_ok-front_of.field-0 ∷ []) (drop (count + 1) (prefixes name))
+    (append_assoc items (c.in_ok-copy_front.field-0 ∷ []) (drop (count + 1) (prefixes name))
     ∙ ap (λ (xs : List Labels). items ++ xs) (sym next) ∙ c.loop-count.invariant)
 
 pub returns : goal.returns

@@ -3,8 +3,10 @@ use Rattle.std.specs.BTreeSet as tree
 use Rattle.std.specs.Cmp.Lexicographic.{slice_cmp}
 use Rattle.dns_data.specs.Name.{Labels, name_cmp}
 use Rattle.net_model.specs.declared.config.Server.{Server}
+use Rattle.net_model.specs.Configured.{AreConsistent}
 use Rattle.config_load.specs.Hosted.{AreTellers}
 use Rattle.config_load.specs.Servers.{has_zone, with_zone}
+use Rattle.config_load.proofs.ConsistentServers.{still_consistent}
 use Rattle.config_load.proofs.ServerPlaces.{AreTellers-more, given-twice, given-more, known-added}
 use Rattle.config_load.proofs.servers.Servers.with_zone.Goals as goal
 
@@ -18,10 +20,18 @@ returns-then-not-branch c =
 
 pub invariant_of-result : goal.invariant_of-result
 invariant_of-result c =
+    let name = c.args.name in
+    let zone = c.args.zone in
+    let servers = c.self.inside.servers.items in
+    let none : has_zone name zone.origin servers ≡ false =
+    sym (c.self.invariant.1 name zone.origin)
+    ∙ ap (λ (teller : List Labels). tree.contains (slice_cmp name_cmp) c.self.inside.tellers teller) (sym c.in_ok-teller.ensures)
+    ∙ known-added c.in_ok-insert.field-0 _ true c.if-not-branch.false c.in_ok-insert.ensures.added in
     let added = subst (λ (teller : List Labels). tree.Updates (slice_cmp name_cmp) c.self.inside.tellers c.insert.new.self teller true) c.in_ok-teller.ensures c.in_ok-insert.ensures.updates in (
       c.in_ok-put_zone.ensures.places,
-      subst (λ (servers : List Server). AreTellers c.insert.new.self servers) (sym c.in_ok-put_zone.ensures.servers)
-          (AreTellers-more c.self.inside.tellers c.insert.new.self c.args.name c.args.zone c.self.inside.servers.items c.self.invariant.1 added),
+      subst (λ (more : List Server). AreTellers c.insert.new.self more) (sym c.in_ok-put_zone.ensures.servers)
+          (AreTellers-more c.self.inside.tellers c.insert.new.self name zone servers c.self.invariant.1 added),
+      subst AreConsistent (sym c.in_ok-put_zone.ensures.servers) (still_consistent name zone c.requires servers none c.self.invariant.2),
     )
 
 pub returns : goal.returns

@@ -23,7 +23,7 @@ loop-top-init c =
 pub loop-top-preserved : goal.loop-top-preserved
 loop-top-preserved c =
     let hosts = c.args.hosts.now in
-    let items = c.items-top-items.result.now in
+    let items = c.tops-top-items.result.now in
     let index = c.loop-top.top-index in
     let top = c.top-item.result in (
       c.in_ok-list_top.ensures.tops
@@ -41,5 +41,5 @@ invariant_of-result c =
 pub returns : goal.returns
 returns c =
     ap (with_tops c.config-config.result.now)
-    (c.loop-top.invariant.0 ∙ take_all c.loop-top.top-index c.items-top-items.result.now c.loop-top-test.false ∙ c.items-top-items.ensures)
+    (c.loop-top.invariant.0 ∙ take_all c.loop-top.top-index c.tops-top-items.result.now c.loop-top-test.false ∙ c.tops-top-items.ensures)
     ∙ c.config-config.ensures

@@ -23,7 +23,7 @@ pub loop-top-preserved : goal.loop-top-preserved
 unfolding names
 loop-top-preserved c =
     let hosts = c.args.hosts.now in
-    let items = c.items-top-items.result.now in
+    let items = c.tops-top-items.result.now in
     let index = c.loop-top.top-index in
     let top = c.top-item.result in
     let tops = names c.loop-top.tops.items in
@@ -57,7 +57,7 @@ unfolding names
 returns c =
     let hosts = c.args.hosts.now in
     let tops = names c.loop-top.tops.items in
-    let all : take c.loop-top.top-index c.items-top-items.result.now ≡ hosts.tops =
-    take_all c.loop-top.top-index c.items-top-items.result.now c.loop-top-test.false ∙ c.items-top-items.ensures ∙ ap (λ (k : Config). k.tops) c.config-config.ensures in
+    let all : take c.loop-top.top-index c.tops-top-items.result.now ≡ hosts.tops =
+    take_all c.loop-top.top-index c.tops-top-items.result.now c.loop-top-test.false ∙ c.tops-top-items.ensures ∙ ap (λ (k : Config). k.tops) c.config-config.ensures in
     let stand = subst (λ (passed : List Labels). StandSoFar hosts passed tops c.loop-top.places) all c.loop-top.invariant in
     record { tops = tops; is = ap (λ (k : Config). with_tops k tops) c.config-config.ensures; some = stand.some; each = stand.each }

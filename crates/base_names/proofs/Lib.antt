@@ -1,0 +1,2 @@
+pub mod JoinedBase
+pub mod ZoneNames
