@@ -13,10 +13,9 @@ use Rattle.master_lex.specs.declared.scanner.TheConstants.{MOST}
 use Rattle.master_lex.specs.Octets.{kind, is_space, is_blank, is_feed, ends_word, stands}
 use Rattle.master_lex.specs.States.{LexState, with_mode, pushed, token_ended, line_ended, entry_ended, between_by, in_word_by, in_comment_by, passed_by, passed, run}
 use Rattle.master_lex.specs.Plain.{with_plain, PassedFirst}
-use Rattle.master_lex.specs.Lines.{IsWord, IsQuoted, IsLineEnd, in_line, IsAtLine}
+use Rattle.master_lex.specs.Lines.{line_entries, IsWord, IsQuoted, IsLineEnd, in_line, HoldsNothing, at_line, HasPassedLine}
 use Rattle.master_lex.proofs.PlainLemmas.{kept_between, kept_in_token, comment_first, blank_first}
 use Rattle.master_lex.proofs.Reached.{octet_more, first_more}
-use Rattle.master_lex.proofs.UndoLemmas.{same_state}
 
 -- plain octets with white space or the line's end behind them are a whole token
 pub is_word : (octets : List ℕ) (count : ℕ) → count ≡ prefix_len (λ octet. stands false (kind octet)) octets → count ≤ MOST → count < length octets
@@ -143,32 +142,32 @@ same_between Quote s octet = refl
 same_between Backslash s octet = refl
 
 -- the first octet of a line is passed as within one
-first_passed : (s : LexState) (octet : ℕ) → IsAtLine s → passed s octet ≡ passed (in_line (begun s (is_space octet)) []) octet
+first_passed : (s : LexState) (octet : ℕ) → HoldsNothing s → passed s octet ≡ passed (in_line (begun s (is_space octet)) []) octet
 unfolding passed
 first_passed s octet h =
     let same : with_mode (begun s (is_space octet)) Between ≡ in_line (begun s (is_space octet)) [] = rw (h.tokens, h.raw, h.depth) refl in
     ap (λ mode. passed_by mode s octet) h.mode ∙ same_between (kind octet) (begun s (is_space octet)) octet ∙ ap (λ x. between_by (kind octet) x octet) same
 
--- the entry of the line ends in the same way, whichever of its tokens was the first
-same_ended : (s : LexState) (blank : Bool) (tokens : List Token) → s.raw ≡ []
-    → entry_ended (record s { tokens = tokens; position = record s.position { first = s.position.line; blank_start = blank } }) ≡ entry_ended (in_line (begun s blank) tokens)
-same_ended s blank [] none = rw none refl
-same_ended s blank (token ∷ others) none = rw none refl
+-- the entry of the line
+entry_made : (s : LexState) (blank : Bool) (tokens : List Token) (count : ℕ) → s.ready ≡ []
+    → entry_ended (in_line (begun s blank) tokens) ≡ at_line (s.position.line + 1) (line_entries (record { octets = count; line = s.position.line; blank_start = blank }) tokens)
+entry_made s blank [] count none = rw none refl
+entry_made s blank (token ∷ others) count none = rw none refl
 
--- a line whose tokens were read is passed over where its entry ends
-pub line_passed : (s s' : LexState) (tokens : List Token) (octets : List ℕ) (count : ℕ) → IsAtLine s → 0 < count
+-- a line whose tokens were read is passed, and its entry taken
+pub line_passed : (s : LexState) (tokens : List Token) (octets : List ℕ) (count : ℕ) → HoldsNothing s → 0 < count
     → ((s : LexState) → PassedFirst (in_line s []) (entry_ended (in_line s tokens)) octets count)
-    → s' ≡ entry_ended (record s { tokens = tokens; position = record s.position { first = s.position.line; blank_start = is_space (get_or octets 0 0) } })
-    → PassedFirst s s' octets count
-line_passed s s' tokens [] count here some p is = absurd (let within = (p s).within in omega (arith, within))
-line_passed s s' tokens (octet ∷ octets) zero here some p is = absurd (omega arith)
-line_passed s s' tokens (octet ∷ octets) (suc count) here some p is =
+    → HasPassedLine s (at_line (s.position.line + 1) []) tokens octets (record { octets = count; line = s.position.line; blank_start = is_space (get_or octets 0 0) })
+line_passed s tokens [] count h some p = absurd (let within = (p s).within in omega (arith, within))
+line_passed s tokens (octet ∷ octets) zero h some p = absurd (omega arith)
+line_passed s tokens (octet ∷ octets) (suc count) h some p =
     let line = p (begun s (is_space octet)) in
     record {
-      within = line.within;
-      passed = is ∙ same_ended s (is_space octet) tokens here.raw ∙ line.passed ∙ sym (ap (λ x. run x (take count octets)) (first_passed s octet here));
+      some = some;
+      ready = h.ready;
+      new_is = refl;
+      passed = record {
+        within = line.within;
+        passed = sym (entry_made s (is_space octet) tokens (suc count) h.ready) ∙ line.passed ∙ sym (ap (λ x. run x (take count octets)) (first_passed s octet h));
+      };
     }
-
--- a line that is given up leaves what was held before it
-pub given_up : (s t s' : LexState) → IsAtLine s → t.ready ≡ s.ready → t.raw ≡ s.raw → s' ≡ record t { tokens = []; position = s.position } → s' ≡ s
-given_up s t s' here ready raw is = is ∙ same_state s ready (sym here.tokens) raw refl

@@ -1,5 +1,5 @@
 -- How far the octets of a piece were passed.
-use Rattle.std.proofs.Common.{◌≡◌, ℕ, ◌+◌, ◌-◌, ◌<◌, ◌≤◌, List, [], ◌∷◌, length, get_or, take, drop, subst, sym, ap, ◌∙◌, add-one, arith}
+use Rattle.std.proofs.Common.{◌≡◌, ℕ, ◌+◌, ◌-◌, ◌<◌, List, [], ◌∷◌, length, get_or, take, drop, subst, sym, ap, ◌∙◌, add-one, arith}
 use Rattle.std.proofs.lemmas.List.{length-take-le, length-drop, take_all}
 use Rattle.std.proofs.Math.Seq.{take-add, take-suc}
 use Rattle.master_lex.specs.States.{LexState, passed, run, IsTidy}
@@ -44,19 +44,3 @@ reached s s' octets n tidy first =
 pub reached_more : (s s' s'' : LexState) (octets : List ℕ) (n m : ℕ) → IsTidy s → PassedFirst s s' octets n → PassedFirst s' s'' (take (length octets - n) (drop n octets)) m
     → Reached s s'' octets (n + m)
 reached_more s s' s'' octets n m tidy first more = reached s s'' octets (n + m) tidy (first_more s s' s'' octets n m first more)
-
--- where no octet was passed over, nothing has changed
-pub none_passed : (s s' : LexState) (octets : List ℕ) (n : ℕ) → n ≡ 0 → PassedFirst s s' octets n → s' ≡ s
-none_passed s s' octets n none first = first.passed ∙ ap (λ k. run s (take k octets)) none
-
--- where no octet more was passed over, those in front still were
-pub none_more : (s s' s'' : LexState) (octets : List ℕ) (n m : ℕ) → m ≡ 0 → PassedFirst s s' octets n → PassedFirst s' s'' (take (length octets - n) (drop n octets)) m → PassedFirst s s'' octets n
-none_more s s' s'' octets n m none first more =
-    subst (λ (k : ℕ). PassedFirst s s'' octets k) (omega (arith, none)) (first_more s s' s'' octets n m first more)
-
--- the octets behind those that were passed are within all
-pub rest_within : (octets : List ℕ) (n : ℕ) → n ≤ length octets → n + length (take (length octets - n) (drop n octets)) ≡ length octets
-rest_within octets n within =
-    let rest = length-drop n octets in
-    let all = length-take-le (length octets - n) (drop n octets) (omega (arith, rest)) in
-    omega (arith, rest, all)

@@ -1,13 +1,15 @@
 -- For which text a lexer stands, and what it answers.
-use Rattle.std.proofs.Common.{◌≡◌, ℕ, ◌+◌, Bool, true, false, List, [], ◌∷◌, ◌++◌, length, drop, refl, sym, ap, ◌∙◌, append_assoc, arith, Option, None}
-use Rattle.std.proofs.lemmas.List.{length-append, append-nil}
+use Rattle.std.proofs.Common.{◌≡◌, ℕ, ◌+◌, ◌-◌, ◌^◌, ◌<◌, Bool, true, false, List, [], ◌∷◌, ◌++◌, length, take, drop, refl, sym, ap, ◌∙◌, append_assoc, arith, Option, None}
+use Rattle.std.proofs.lemmas.List.{length-append, length-take-le, append-nil}
 use Rattle.std.specs.Prelude.{if◌then◌else◌, Result, Ok, Err, IfOk, OnErr}
 use Rattle.std.proofs.lemmas.Result.{IfOk-weaker, on_err_weaker}
 use Rattle.dns_data.specs.Answers.{AnswersOr}
 use Rattle.master_lex.specs.declared.entry.Entry.{Entry}
+use Rattle.master_lex.specs.declared.entry.Token.{Token}
 use Rattle.master_lex.specs.declared.fault.LexFault.{LexFault}
 use Rattle.master_lex.specs.declared.fault.TakeFault.{TakeFault}
 use Rattle.master_lex.specs.declared.fault.TakeFault.TheVariants.{Lex, NoMemory}
+use Rattle.master_lex.specs.declared.line.PlainLine.{PlainLine}
 use Rattle.master_lex.specs.declared.position.Mode.{Mode}
 use Rattle.master_lex.specs.declared.position.Mode.TheVariants.{Start, Between, Comment, InToken, Faulty}
 use Rattle.master_lex.specs.declared.taken.Taken.{Taken}
@@ -15,7 +17,8 @@ use Rattle.master_lex.specs.declared.taken.Taken.TheVariants as answers
 use Rattle.master_lex.specs.Contents.{Contents, behind, contents, text_entries, text_fault}
 use Rattle.master_lex.specs.States.{LexState, empty, run, Fits, IsTidy, ahead_by, ahead, last_fault, whole_by, made, without_fault, last_entry}
 use Rattle.master_lex.specs.Taking.{IsFault, left_answer, IsNextEntry, given_with}
-use Rattle.master_lex.specs.Lexer.{Lexing, IsLexerOf, left, LastTaken}
+use Rattle.master_lex.specs.Lexer.{Lexing, IsLexerOf, IsSoundLexer, left, LastTaken}
+use Rattle.master_lex.specs.Lines.{line_entries, at_line, HasPassedLine}
 use Rattle.master_lex.proofs.Running.{run_ahead, end_ahead}
 use Rattle.master_lex.proofs.Settled.{held_fault, not_settled}
 
@@ -197,3 +200,21 @@ pub last_answer : (s : LexState) (n : ℕ) (finished : Bool) → s.ready ≡ [] 
     → left_answer finished (left (record { state = s; fed = n; finished = finished })) (known_fault (record { state = s; fed = n; finished = finished }))
     ≡ left_answer true (last_entry s) (last_fault s.position)
 last_answer s n finished none ended = rw (ended, none) refl
+
+-- ---- plain lines
+
+-- where a line was passed and its entry taken, the text went on by the line, and the entry was given
+pub line_stands : (s s' : LexState) (n n' : ℕ) (finished : Bool) (tokens : List Token) (octets : List ℕ) (line : PlainLine) → finished ≡ false → IsTidy s → HasPassedLine s s' tokens octets line → n' ≡ n + line.octets
+    → (text : List ℕ) (given : List Entry) → IsLexerOf (record { state = s; fed = n; finished = finished }) text given
+    → IsLexerOf (record { state = s'; fed = n'; finished = finished }) (text ++ take line.octets octets) (given ++ line_entries line tokens)
+line_stands s s' n n' finished tokens octets line unended tidy p e text given h =
+    let mid = at_line (s.position.line + 1) (line_entries line tokens) in
+    let len : length (take line.octets octets) ≡ line.octets = length-take-le line.octets octets p.passed.within in
+    let fed = fed_stands s mid n n' text (take line.octets octets) given finished unended tidy p.passed.passed (e ∙ ap (λ k. n + k) (sym len)) h in
+    rw p.new_is (ready_given mid n' finished (text ++ take line.octets octets) given fed)
+
+-- the limits hold behind a line
+pub line_sound : (s s' : LexState) (n : ℕ) (tokens : List Token) (octets : List ℕ) (line : PlainLine) → IsSoundLexer s n → HasPassedLine s s' tokens octets line → n + length octets < 2 ^ 32 - 1
+    → IsSoundLexer s' (n + line.octets)
+line_sound s s' n tokens octets line sound p short =
+    rw p.new_is (record { tidy = (refl, refl); line = omega (arith, sound.line, p.some); depth = omega arith; fed_below = omega (arith, short, p.passed.within) })

@@ -1,7 +1,9 @@
 -- Plain lines, which are passed over at once.
 use Rattle.std.specs.Prelude.{◌≡◌, ◌⊎◌, ℕ, ◌+◌, ◌<◌, ◌≤◌, List, [], ◌∷◌, length, get_or, true, false, not, if◌then◌else◌}
 use Rattle.std.specs.List.{prefix_len}
+use Rattle.master_lex.specs.declared.entry.Entry.{Entry}
 use Rattle.master_lex.specs.declared.entry.Token.{Token}
+use Rattle.master_lex.specs.declared.line.PlainLine.{PlainLine}
 use Rattle.master_lex.specs.declared.line.LinePart.{LinePart}
 use Rattle.master_lex.specs.declared.line.LinePart.TheVariants as parts
 use Rattle.master_lex.specs.declared.position.Mode.TheVariants.{Start, Between}
@@ -9,7 +11,11 @@ use Rattle.master_lex.specs.declared.scanner.TheConstants.{MOST}
 use Rattle.master_lex.specs.Lists.{is_empty}
 use Rattle.master_lex.specs.Octets.{kind, is_feed, ends_word, stands}
 use Rattle.master_lex.specs.Plain.{PassedFirst}
-use Rattle.master_lex.specs.States.{LexState, entry_ended}
+use Rattle.master_lex.specs.States.{LexState, start_of, entry_ended}
+
+-- the entry of a line with these tokens, or none without a token
+abbrev pub line_entries : PlainLine → List Token → List Entry
+line_entries line tokens = if is_empty tokens then [] else record { line = line.line; blank_start = line.blank_start; tokens = tokens } ∷ []
 
 -- a token without quotes stands whole in front, of so many octets: white space or the line's end stands behind it
 pub record IsWord (octets : List ℕ) (count : ℕ) : Type 0 where
@@ -53,9 +59,21 @@ IsPartWithin most (parts.Token count) = (0 < count) × (count ≤ most)
 IsPartWithin most (parts.End count) = (0 < count) × (count ≤ most)
 IsPartWithin most parts.Other = Unit {0}
 
--- an entry may begin, and nothing of one is held
-pub record IsAtLine (s : LexState) : Type 0 where
+-- nothing is held, and an entry may begin
+pub record HoldsNothing (s : LexState) : Type 0 where
+  pub ready : s.ready ≡ []
   pub tokens : s.tokens ≡ []
   pub raw : s.raw ≡ []
   pub depth : s.position.depth ≡ 0
   pub mode : s.position.mode ≡ Start
+
+-- the state at the start of a line, with these entries
+abbrev pub at_line : ℕ → List Entry → LexState
+at_line line ready = record { ready = ready; tokens = []; raw = []; position = start_of line }
+
+-- a line was passed, and its entry was taken
+pub record HasPassedLine (old new : LexState) (tokens : List Token) (octets : List ℕ) (line : PlainLine) : Type 0 where
+  pub some : 0 < line.octets
+  pub ready : old.ready ≡ []
+  pub new_is : new ≡ at_line (old.position.line + 1) []
+  pub passed : PassedFirst old (at_line (old.position.line + 1) (line_entries line tokens)) octets line.octets

@@ -1,20 +1,21 @@
 //! The lexer.
 
-ghost use Rattle.std.specs.Prelude.{◌≡◌, ◌+◌, ◌-◌, ◌^◌, ◌<◌, ◌≤◌, ℕ, List, [], ◌++◌, length, true, false, OnOk, OnErr, IfOk};
+ghost use Rattle.std.specs.Prelude.{◌≡◌, ◌+◌, ◌-◌, ◌^◌, ◌<◌, ◌≤◌, ℕ, List, [], ◌++◌, length, take, true, false, OnOk, OnErr, IfOk, IfSome, IfNone};
 ghost use Rattle.master_lex.specs.declared.entry.Entry.{Entry as LexEntry};
 ghost use Rattle.master_lex.specs.Lexer.{IsLexerOf, left};
+ghost use Rattle.master_lex.specs.Lines.{line_entries};
 ghost use Rattle.master_lex.specs.Taking.{IsNextEntry, given_with};
 
 use crate::entry::Entry;
 use crate::fault::TakeFault;
+use crate::line::PlainLine;
 use crate::position::Mode;
 use crate::scanner::Scanner;
 use crate::taken::Taken;
+use crate::text_token::TextToken;
 use dns_data::NoMemory;
 use std::alloc::Global;
-use std::collections::VecDeque;
 use std::marker::Model;
-use std::mem;
 
 /// The entries of a master file, from octets that come in pieces.
 #[derive(Debug, Drop)]
@@ -67,6 +68,30 @@ impl Lexer {
         Ok(())
     }
 
+    /// Passes over the plain line with which the next octets of the text begin, if no entry is under way and none is to
+    /// be taken, and puts its tokens in place of those given; they are those of the next entry, which counts as taken, or
+    /// none where the line has no token. `None` where nothing was passed: such a line has no backslash, no parenthesis and
+    /// no quotes that it doesn't close, and stands whole among the octets (RFC 1035 section 5.1).
+    pub fn pass_line<'a>(
+        &mut self,
+        octets: &'a [u8],
+        tokens: &mut Vec<TextToken<'a>>,
+    ) -> Option<PlainLine>
+        requires open { self.old.finished ≡ false }
+        requires short { self.old.fed + length octets.now < 2 ^ 32 - 1 }
+        ensures stands { (text : List ℕ) (given : List LexEntry) → IsLexerOf self.old text given
+            → IfSome result (λ line. IsLexerOf self.new (text ++ take line.octets octets.now) (given ++ line_entries line tokens.new.items)) }
+        ensures within { IfSome result (λ line. line.octets ≤ length octets.now) }
+        ensures some { IfSome result (λ line. 0 < line.octets) }
+        ensures fed { IfSome result (λ line. self.new.fed ≡ self.old.fed + line.octets) }
+        ensures open { self.new.finished ≡ false }
+        ensures none { IfNone result (self.new ≡ self.old) }
+    {
+        let line = self.scanner.pass_line(octets, tokens)?;
+        self.fed += line.octets as u32;
+        Some(line)
+    }
+
     /// Says that the text has ended.
     pub fn finish(&mut self)
         requires { self.old.finished ≡ false }
@@ -98,25 +123,5 @@ impl Lexer {
             return Ok(Taken::More);
         }
         self.scanner.take_last(alloc)
-    }
-
-    /// Puts the whole entries that weren't taken into a queue at once, if that is empty; else it does nothing.
-    pub fn take_ready(&mut self, entries: &mut VecDeque<Entry>)
-        ensures stands { (text : List ℕ) (given : List LexEntry) → IsLexerOf self.old text given
-            → (more : List LexEntry) × (entries.new.items ≡ entries.old.items ++ more) × IsLexerOf self.new text (given ++ more) }
-        ensures finished { self.new.finished ≡ self.old.finished }
-        ensures fed { self.new.fed ≡ self.old.fed }
-    {
-        if !entries.is_empty() {
-            return;
-        }
-        mem::swap(entries, &mut self.scanner.ready);
-    }
-
-    /// Hands back an entry that was taken and isn't needed any more, so that entries to come have its room.
-    pub fn hand_back(&mut self, entry: Entry)
-        ensures { self.new ≡ self.old }
-    {
-        self.scanner.spares.leave(entry.tokens.into_vec());
     }
 }

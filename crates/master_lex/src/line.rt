@@ -1,19 +1,27 @@
-//! Plain lines, which are passed over at once: those without a backslash, parentheses, and quotes that they don't
-//! close, which begin an entry and end in the same piece.
+//! Plain lines, which are passed over at once.
 
-ghost use Rattle.std.specs.Prelude.{◌≡◌, ◌+◌, ◌^◌, ◌<◌, ◌≤◌, [], ◌∷◌, ◌++◌, length, get_or, true};
-ghost use Rattle.master_lex.specs.Lines.{IsWord, IsQuoted, IsLineEnd, in_line, HasPassedPart, IsPartWithin, IsAtLine};
+ghost use Rattle.std.specs.Prelude.{◌≡◌, ◌+◌, ◌^◌, ◌<◌, ◌≤◌, [], length, get_or, true, IfSome, IfNone};
+ghost use Rattle.master_lex.specs.Lines.{IsWord, IsQuoted, IsLineEnd, in_line, HasPassedPart, IsPartWithin, HoldsNothing, HasPassedLine};
 ghost use Rattle.master_lex.specs.Octets.{is_space};
 ghost use Rattle.master_lex.specs.Plain.{PassedFirst};
-ghost use Rattle.master_lex.specs.States.{LexState, state_of, entry_ended, IsTidy};
+ghost use Rattle.master_lex.specs.States.{LexState, state_of, entry_ended};
 
-use crate::entry::Token;
 use crate::octet::{ends_word, is_feed_octet, is_space_octet};
 use crate::plain::{blank_len, line_len, token_len};
 use crate::position::{Mode, Position};
 use crate::scanner::{MOST, Scanner};
-use dns_data::{NoMemory, Octets};
-use std::alloc::Global;
+use crate::text_token::TextToken;
+
+/// A line that was passed over at once.
+#[derive(Clone, Copy, Debug)]
+pub struct PlainLine {
+    /// How many octets it has, its line feed among them.
+    pub octets: usize,
+    /// The line, counted from 1.
+    pub line: u32,
+    /// Whether it has a space or a tab in front.
+    pub blank_start: bool,
+}
 
 /// What stands in front of a line, behind white space, and how many octets it has with that.
 #[derive(Clone, Copy, Debug)]
@@ -68,19 +76,8 @@ fn end_len(octets: &[u8]) -> usize
     }
 }
 
-/// Puts a token with these octets among those of the line, and says whether there was memory for it.
-fn put_token(alloc: Global, raw: &[u8], quoted: bool, tokens: &mut Vec<Token>) -> bool
-    ensures { result ≡ true → tokens.new.items ≡ tokens.old.items ++ record { raw = raw.now; quoted = quoted } ∷ [] }
-{
-    match Octets::from_octets(alloc, raw) {
-        Ok(raw) => tokens.push(Token { raw, quoted }).is_ok(),
-        Err(NoMemory) => false,
-    }
-}
-
-/// Passes over white space and a token, or the line's end, or both, and puts the token among those of the line. `Other`
-/// comes besides where memory ran out.
-fn pass_part(alloc: Global, octets: &[u8], tokens: &mut Vec<Token>) -> LinePart
+/// Passes over white space and a token, or the line's end, or both, and puts the token among those of the line.
+fn pass_part<'a>(octets: &'a [u8], tokens: &mut Vec<TextToken<'a>>) -> LinePart
     ensures passed { (s : LexState) → HasPassedPart s tokens.old.items tokens.new.items octets.now result }
     ensures within { IsPartWithin (length octets.now) result }
 {
@@ -88,7 +85,7 @@ fn pass_part(alloc: Global, octets: &[u8], tokens: &mut Vec<Token>) -> LinePart
     let rest = &octets[blank..];
     let word = word_len(rest);
     if word > 0 {
-        if !put_token(alloc, &rest[..word], false, tokens) {
+        if tokens.push(TextToken::new(&rest[..word], false)).is_err() {
             return LinePart::Other;
         }
         let count = blank + (word + 1);
@@ -100,7 +97,10 @@ fn pass_part(alloc: Global, octets: &[u8], tokens: &mut Vec<Token>) -> LinePart
     }
     let quoted = quoted_len(rest);
     if quoted > 0 {
-        if !put_token(alloc, &rest[1..quoted - 1], true, tokens) {
+        if tokens
+            .push(TextToken::new(&rest[1..quoted - 1], true))
+            .is_err()
+        {
             return LinePart::Other;
         }
         return LinePart::Token(blank + quoted);
@@ -114,15 +114,15 @@ fn pass_part(alloc: Global, octets: &[u8], tokens: &mut Vec<Token>) -> LinePart
 }
 
 /// Puts the tokens of the plain line in front among `tokens`, which is empty, and says how many octets the line has,
-/// its line feed among them, or none where no plain line stands whole there or memory ran out.
-fn read_line(alloc: Global, octets: &[u8], tokens: &mut Vec<Token>) -> usize
+/// its line feed among them, or none where no plain line stands whole there.
+fn read_line<'a>(octets: &'a [u8], tokens: &mut Vec<TextToken<'a>>) -> usize
     requires { tokens.old.items ≡ [] }
     ensures line { 0 < result → (s : LexState) → PassedFirst (in_line s []) (entry_ended (in_line s tokens.new.items)) octets.now result }
     ensures within { result ≤ length octets.now }
 {
     let mut passed = 0;
     loop {
-        match pass_part(alloc, &octets[passed..], tokens) {
+        match pass_part(&octets[passed..], tokens) {
             LinePart::Token(count) => passed += count,
             LinePart::End(count) => return passed + count,
             LinePart::Other => return 0,
@@ -141,61 +141,42 @@ fn begins_blank(octets: &[u8]) -> bool
 }
 
 impl Scanner {
-    /// Whether an entry may begin, and nothing of one is held.
-    fn is_at_line(&self) -> bool
-        ensures { result ≡ true → IsAtLine (state_of self.now) }
+    /// Whether nothing is held, and an entry may begin.
+    fn holds_nothing(&self) -> bool
+        ensures { result ≡ true → HoldsNothing (state_of self.now) }
     {
         matches!(self.position.mode, Mode::Start)
             && self.position.depth == 0
+            && self.ready.is_empty()
             && self.tokens.is_empty()
             && self.raw.is_empty()
     }
 
-    /// Gives up a line whose entry began here.
-    fn leave_line(&mut self, begun: Position)
-        ensures { state_of self.new ≡ record (state_of self.old) { tokens = []; position = begun } }
-    {
-        self.tokens.clear();
-        self.position = begun;
-    }
-
-    /// Passes over a plain line in front, where an entry may begin, and says how many octets it has, its line feed among
-    /// them, or none where no plain line stands whole there or memory ran out. Then nothing has changed.
-    fn pass_line(&mut self, alloc: Global, octets: &[u8]) -> usize
+    /// Passes over a plain line in front, where nothing is held, and puts its tokens in place of those given, or answers
+    /// `None` and passes nothing.
+    pub(crate) fn pass_line<'a>(
+        &mut self,
+        octets: &'a [u8],
+        tokens: &mut Vec<TextToken<'a>>,
+    ) -> Option<PlainLine>
         requires { self.old.position.line + length octets.now < 2 ^ 32 }
-        ensures { PassedFirst (state_of self.old) (state_of self.new) octets.now result }
+        ensures some { IfSome result (HasPassedLine (state_of self.old) (state_of self.new) tokens.new.items octets.now) }
+        ensures none { IfNone result (state_of self.new ≡ state_of self.old) }
     {
-        if !self.is_at_line() {
-            return 0;
+        if !self.holds_nothing() {
+            return None;
         }
-        let begun = self.position;
-        let count = read_line(alloc, octets, &mut self.tokens);
+        tokens.clear();
+        let count = read_line(octets, tokens);
         if count == 0 {
-            self.leave_line(begun);
-            return 0;
+            return None;
         }
-        self.position.first = begun.line;
-        self.position.blank_start = begins_blank(octets);
-        if self.end_entry(alloc).is_err() {
-            self.leave_line(begun);
-            return 0;
-        }
-        count
-    }
-
-    /// Passes over the plain lines in front, where an entry may begin, and says how many octets they have.
-    pub(crate) fn pass_lines(&mut self, alloc: Global, octets: &[u8]) -> usize
-        requires tidy { IsTidy (state_of self.old) }
-        requires line { self.old.position.line + length octets.now < 2 ^ 32 }
-        ensures { PassedFirst (state_of self.old) (state_of self.new) octets.now result }
-    {
-        let mut passed = 0;
-        loop {
-            let count = self.pass_line(alloc, &octets[passed..]);
-            if count == 0 {
-                return passed;
-            }
-            passed += count;
-        }
+        let line = self.position.line;
+        self.position = Position::start(line + 1);
+        Some(PlainLine {
+            octets: count,
+            line,
+            blank_start: begins_blank(octets),
+        })
     }
 }

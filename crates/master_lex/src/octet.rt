@@ -1,7 +1,6 @@
 //! What single octets mean.
 
 ghost use Rattle.std.specs.Prelude.{◌≡◌, ◌<◌, true, false};
-ghost use Rattle.dns_data.specs.Octet.{is_digit};
 ghost use Rattle.master_lex.specs.Octets.{kind, is_space, is_blank, is_feed, ends_word, stands};
 ghost use Rattle.master_lex.specs.Pieces.{is_code};
 

@@ -1,10 +1,10 @@
 //! Passing over plain octets at once: those that begin a token or only go on with what is under way.
 
-ghost use Rattle.std.specs.Prelude.{◌≡◌, ◌+◌, ◌^◌, ◌<◌, ◌≤◌, length, not, OnErr, IfOk};
+ghost use Rattle.std.specs.Prelude.{◌≡◌, ◌≤◌, length, not, OnErr, IfOk};
 ghost use Rattle.std.specs.List.{prefix_len};
 ghost use Rattle.master_lex.specs.declared.position.Mode.TheVariants.{Start, Between};
 ghost use Rattle.master_lex.specs.Octets.{kind, is_blank, is_feed, stands};
-ghost use Rattle.master_lex.specs.States.{state_of, IsTidy};
+ghost use Rattle.master_lex.specs.States.{state_of};
 ghost use Rattle.master_lex.specs.Plain.{KeptPlain, PassedFirst};
 
 use crate::octet::{is_blank_octet, is_feed_octet, is_plain_in_quotes, is_plain_in_word};
@@ -69,25 +69,9 @@ impl Scanner {
         Ok(count)
     }
 
-    /// Passes over plain lines, or the plain octets with which an entry begins, and says how many octets these are.
-    /// After an error nothing has changed.
-    fn begin_entry(&mut self, alloc: Global, octets: &[u8]) -> Result<usize, NoMemory>
-        requires start { self.old.position.mode ≡ Start }
-        requires tidy { IsTidy (state_of self.old) }
-        requires line { self.old.position.line + length octets.now < 2 ^ 32 }
-        ensures ok { IfOk result (PassedFirst (state_of self.old) (state_of self.new) octets.now) }
-        ensures err { OnErr result (state_of self.new ≡ state_of self.old) }
-    {
-        let lines = self.pass_lines(alloc, octets);
-        if lines > 0 {
-            return Ok(lines);
-        }
-        self.begin_token(alloc, octets)
-    }
-
     /// Passes over the plain octets with which an entry begins, and says how many these are. After an error nothing has
     /// changed.
-    fn begin_token(&mut self, alloc: Global, octets: &[u8]) -> Result<usize, NoMemory>
+    fn begin_entry(&mut self, alloc: Global, octets: &[u8]) -> Result<usize, NoMemory>
         requires { self.old.position.mode ≡ Start }
         ensures ok { IfOk result (PassedFirst (state_of self.old) (state_of self.new) octets.now) }
         ensures err { OnErr result (state_of self.new ≡ state_of self.old) }
@@ -111,12 +95,9 @@ impl Scanner {
         Ok(blank + count)
     }
 
-    /// Passes over plain lines in front, or over the octets in front that begin a token or only go on with what is under
-    /// way, as far as the token has room for them, and says how many they are, which may be none. After an error nothing
-    /// has changed.
+    /// Passes over the octets in front that begin a token or only go on with what is under way, as far as the token has
+    /// room for them, and says how many they are, which may be none. After an error nothing has changed.
     pub(crate) fn pass_plain(&mut self, alloc: Global, octets: &[u8]) -> Result<usize, NoMemory>
-        requires tidy { IsTidy (state_of self.old) }
-        requires line { self.old.position.line + length octets.now < 2 ^ 32 }
         ensures ok { IfOk result (PassedFirst (state_of self.old) (state_of self.new) octets.now) }
         ensures err { OnErr result (state_of self.new ≡ state_of self.old) }
     {

@@ -1,17 +1,16 @@
 //! Passing over a text octet by octet.
 
-ghost use Rattle.std.specs.Prelude.{◌≡◌, ◌+◌, ◌-◌, ◌^◌, ◌<◌, ◌≤◌, if◌then◌else◌, [], OnOk, OnErr, length};
+ghost use Rattle.std.specs.Prelude.{◌≡◌, ◌+◌, ◌-◌, ◌^◌, ◌<◌, ◌≤◌, if◌then◌else◌, OnOk, OnErr, length};
 ghost use Rattle.master_lex.specs.declared.fault.LexKind.TheVariants.{BadEscape};
 ghost use Rattle.master_lex.specs.declared.position.Mode.TheVariants.{InToken};
 ghost use Rattle.master_lex.specs.Octets.{kind};
-ghost use Rattle.master_lex.specs.States.{state_of, empty, passed, between_by, in_word_by, in_quotes_by, behind_backslash, behind_digit, behind_digits, in_token, kept, pushed, failed, with_mode, escape_begun, token_ended, line_ended, in_comment_by, entry_ended, opened, closed, run, IsHalfway, IsTidy};
+ghost use Rattle.master_lex.specs.States.{state_of, empty, passed, between_by, in_word_by, in_quotes_by, behind_backslash, behind_digits, in_token, kept, pushed, failed, with_mode, escape_begun, token_ended, line_ended, in_comment_by, entry_ended, opened, closed, run, IsHalfway, IsTidy};
 ghost use Rattle.master_lex.specs.Undo.{Grew};
 
 use crate::entry::{Entry, Token};
 use crate::fault::{LexFault, LexKind};
 use crate::octet::{OctetKind, is_code, is_space_octet, kind_of};
 use crate::position::{Escape, Mode, Position};
-use crate::spares::Spares;
 use dns_data::{List, NoMemory, Octets};
 use std::alloc::Global;
 use std::collections::VecDeque;
@@ -31,8 +30,6 @@ pub(crate) struct Scanner {
     pub raw: Octets,
     /// How far the entry under way has come.
     pub position: Position,
-    /// Room for the tokens of entries to come.
-    pub spares: Spares,
 }
 
 impl Scanner {
@@ -45,7 +42,6 @@ impl Scanner {
             tokens: Vec::new(alloc),
             raw: Octets::new(),
             position: Position::start(1),
-            spares: Spares::new(alloc),
         }
     }
 
@@ -142,8 +138,7 @@ impl Scanner {
         ensures err { OnErr result (state_of self.new ≡ state_of self.old) }
     {
         if !self.tokens.is_empty() {
-            let room = self.spares.take(alloc);
-            let tokens = List::from_vec(mem::replace(&mut self.tokens, room));
+            let tokens = List::from_vec(mem::replace(&mut self.tokens, Vec::new(alloc)));
             let entry = Entry {
                 line: self.position.first,
                 blank_start: self.position.blank_start,

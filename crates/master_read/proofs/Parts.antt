@@ -1,6 +1,6 @@
 -- Pieces that are read part by part.
-use Rattle.std.proofs.Common.{◌≡◌, ℕ, ◌+◌, ◌≤◌, List, [], ◌∷◌, ◌++◌, length, refl, sym, ap, ◌∙◌, subst, append_assoc, arith}
-use Rattle.std.proofs.lemmas.List.{append-nil, length-append}
+use Rattle.std.proofs.Common.{◌≡◌, ℕ, ◌+◌, ◌-◌, List, [], ◌∷◌, ◌++◌, length, take, drop, refl, sym, ap, ◌∙◌, subst, append_assoc, arith}
+use Rattle.std.proofs.lemmas.List.{append-nil, length-append, length-drop, take_all, take-append-drop}
 use Rattle.dns_data.specs.Name.{Labels}
 use Rattle.master_read.specs.Reader.{Held, IsReading, IsSettled, texts_give}
 use Rattle.master_read.specs.declared.fault.TextFault.{TextFault}
@@ -36,13 +36,11 @@ more_read old mid new piece rest front after h cut reads same fed = record {
   fed = omega (arith, fed, h.fed, length-append h.front front);
 }
 
--- what is fed of a part stays within what is fed of the piece
-pub part_within : (old mid : Held) (piece rest part after : List ℕ) → HasReadPart old mid piece rest → part ++ after ≡ rest
-    → (mid.lexer.fed + length part ≤ old.lexer.fed + length piece) × (mid.fed ≡ old.fed)
-part_within old mid piece rest part after h cut =
+-- what was fed of a piece and what is left of it are the piece
+pub rest_within : (old mid : Held) (piece rest : List ℕ) → HasReadPart old mid piece rest → (mid.lexer.fed + length rest ≡ old.lexer.fed + length piece) × (mid.fed ≡ old.fed)
+rest_within old mid piece rest h =
     let whole : length h.front + length rest ≡ length piece = sym (length-append h.front rest) ∙ ap length h.whole in
-    let parts : length part + length after ≡ length rest = sym (length-append part after) ∙ ap length cut in
-    (omega (arith, h.fed, whole, parts), ap (λ (held : Held). held.fed) h.same)
+    (omega (arith, h.fed, whole), ap (λ (held : Held). held.fed) h.same)
 
 -- where nothing is left, the piece was read
 pub all_read : (old new : Held) (piece rest : List ℕ) → HasReadPart old new piece rest → rest ≡ []
@@ -51,12 +49,23 @@ all_read old new piece rest h none origin ended text reading =
     let is : h.front ≡ piece = sym (append-nil h.front) ∙ ap (λ (r : List ℕ). h.front ++ r) (sym none) ∙ h.whole in
     subst (λ (p : List ℕ). IsReading new origin ended (text ++ p)) is (h.reads origin ended text reading)
 
--- a fault that is settled in a part is settled in the piece
-pub part_settles : (old mid : Held) (piece rest front after : List ℕ) (fault : TextFault) (limits : ReadLimits) (origin : Labels) (ended : List (List ℕ)) (text : List ℕ)
-    → (h : HasReadPart old mid piece rest) → front ++ after ≡ rest → IsSettled fault limits origin ended ((text ++ h.front) ++ front) → IsSettled fault limits origin ended (text ++ piece)
-part_settles old mid piece rest front after fault limits origin ended text h cut settled more later =
-    let read = text ++ h.front in
-    let whole : text ++ piece ≡ (read ++ front) ++ after
-    = ap (λ (p : List ℕ). text ++ p) (sym h.whole) ∙ sym (append_assoc text h.front rest) ∙ ap (λ (r : List ℕ). read ++ r) (sym cut) ∙ sym (append_assoc read front after) in
-    let on : (text ++ piece) ++ more ≡ (read ++ front) ++ (after ++ more) = ap (λ (t : List ℕ). t ++ more) whole ∙ append_assoc (read ++ front) after more in
-    ap (λ (t : List ℕ). texts_give limits origin (ended ++ t ∷ later)) on ∙ settled (after ++ more) later
+-- a fault that is settled in the first octets is settled in all
+pub first_settles : (octets : List ℕ) (count : ℕ) (fault : TextFault) (limits : ReadLimits) (origin : Labels) (ended : List (List ℕ)) (text : List ℕ)
+    → IsSettled fault limits origin ended (text ++ take count octets) → IsSettled fault limits origin ended (text ++ octets)
+first_settles octets count fault limits origin ended text settled more later =
+    let read = text ++ take count octets in
+    let on : (text ++ octets) ++ more ≡ read ++ (drop count octets ++ more)
+    = ap (λ (t : List ℕ). (text ++ t) ++ more) (sym (take-append-drop count octets))
+    ∙ ap (λ (t : List ℕ). t ++ more) (sym (append_assoc text (take count octets) (drop count octets))) ∙ append_assoc read (drop count octets) more in
+    ap (λ (t : List ℕ). texts_give limits origin (ended ++ t ∷ later)) on ∙ settled (drop count octets ++ more) later
+
+-- a fault that is settled in what is left of a piece is settled in the piece
+pub rest_settles : (old mid : Held) (piece rest : List ℕ) (fault : TextFault) (limits : ReadLimits) (origin : Labels) (ended : List (List ℕ)) (text : List ℕ)
+    → (h : HasReadPart old mid piece rest) → IsSettled fault limits origin ended ((text ++ h.front) ++ rest) → IsSettled fault limits origin ended (text ++ piece)
+rest_settles old mid piece rest fault limits origin ended text h settled =
+    subst (λ (t : List ℕ). IsSettled fault limits origin ended t) (append_assoc text h.front rest ∙ ap (λ (p : List ℕ). text ++ p) h.whole) settled
+
+-- the first octets, and those behind them
+pub cut_at : (octets : List ℕ) (count : ℕ) → take count octets ++ take (length octets - count) (drop count octets) ≡ octets
+cut_at octets count =
+    ap (λ (after : List ℕ). take count octets ++ after) (take_all (length octets - count) (drop count octets) (omega (arith, length-drop count octets))) ∙ take-append-drop count octets

@@ -1,5 +1,5 @@
 -- The entries that are left of files, read one after another.
-use Rattle.std.proofs.Common.{◌≡◌, ℕ, zero, suc, ◌+◌, ◌<◌, ◌≤◌, Bool, true, false, nat_le, cond, List, [], ◌∷◌, ◌++◌, refl, sym, ap, ◌∙◌, inl, inr, append_assoc, add-one, arith, Option, Some, None}
+use Rattle.std.proofs.Common.{◌≡◌, ℕ, zero, suc, ◌+◌, ◌<◌, ◌≤◌, Bool, true, false, nat_le, cond, List, [], ◌∷◌, ◌++◌, length, refl, sym, ap, ◌∙◌, inl, inr, append_assoc, add-one, arith, Option, Some, None}
 use Rattle.std.specs.Prelude.{◌≢◌, Result, Ok, Err}
 use Rattle.std.proofs.lemmas.Bool.Decides.{nat_tests}
 use Rattle.std.proofs.lemmas.List.{append-nil}
@@ -7,8 +7,11 @@ use Rattle.dns_data.specs.Answers.{AnswersOr, ◌>>=◌, with_fault}
 use Rattle.dns_data.specs.Name.{Labels}
 use Rattle.master_lex.specs.Contents.{text_entries, text_fault}
 use Rattle.master_lex.specs.declared.entry.Entry.{Entry}
+use Rattle.master_lex.specs.declared.entry.Token.{Token}
 use Rattle.master_lex.specs.declared.fault.LexFault.{LexFault}
+use Rattle.master_lex.specs.declared.line.PlainLine.{PlainLine}
 use Rattle.master_lex.specs.Lexer.{Lexing, IsLexerOf}
+use Rattle.master_lex.specs.Lines.{line_entries}
 use Rattle.master_lex.proofs.Values.{taken_first}
 use Rattle.master_read.specs.Context.{under, back_at}
 use Rattle.master_read.specs.Reader.{Held, rest_of, rest_around, texts_give, IsSettled}
@@ -54,6 +57,11 @@ unfolding with_entries
 fault_of_entries include room file entry entries progress fault (inl free) = inl free
 fault_of_entries include room file entry entries progress fault (inr same) =
     inr (ap (λ (r : Result Progress Unread). r >>= with_entries include room file entries) same)
+
+-- a line with a token has an entry
+pub line_entry : (line : PlainLine) (tokens : List Token) → 0 < length tokens → line_entries line tokens ≡ record { line = line.line; blank_start = line.blank_start; tokens = tokens } ∷ []
+line_entry line [] some = absurd (omega arith)
+line_entry line (token ∷ tokens) some = refl
 
 -- what the first entry may not do is the fault of the entries, at its file and its line
 pub first_fault : (include : Include) (room file : ℕ) (entry : Entry) (entries : List Entry) (records : Records) (texts : List (List ℕ)) (fault : EntryFault)

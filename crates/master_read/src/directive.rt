@@ -8,7 +8,7 @@ ghost use Rattle.master_read.specs.Directives.{Sets, Includes, is_directive, beg
 use crate::context::Context;
 use crate::fault::{EntryFault, TextCause};
 use dns_data::{Name, NameFault, Text, is_word};
-use master_lex::{Entry, Token};
+use master_lex::{Entry, TextEntry, Token};
 use rdata_forms::{read_ttl, resolve};
 use std::alloc::Global;
 
@@ -35,6 +35,18 @@ fn begins_with_dollar(tokens: &[Token]) -> bool
     match tokens {
         [] => false,
         [token, ..] => !token.quoted && token.raw.items().starts_with(b"$"),
+    }
+}
+
+/// Whether an entry whose tokens stand in the text is a directive.
+pub(crate) fn is_directive_in_text(entry: &TextEntry<'_, '_>) -> bool
+    ensures { result ≡ is_directive entry.now }
+{
+    match entry.tokens() {
+        [] => false,
+        [token, ..] => {
+            !entry.blank_start() && !token.is_quoted() && token.raw().starts_with(b"$")
+        }
     }
 }
 

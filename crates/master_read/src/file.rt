@@ -4,17 +4,18 @@ ghost use Rattle.std.specs.Prelude.{◌≡◌, ℕ, List, [], ◌∷◌, ◌++�
 ghost use Rattle.master_lex.specs.declared.entry.Entry.{Entry as LexEntry};
 ghost use Rattle.master_lex.specs.Contents.{text_entries, text_fault};
 ghost use Rattle.master_lex.specs.Lexer.{IsLexerOf};
+ghost use Rattle.master_lex.specs.Lines.{line_entries};
 ghost use Rattle.master_read.specs.Directives.{is_include};
 ghost use Rattle.master_read.specs.Fault.{TellsOfText};
 ghost use Rattle.master_read.specs.Steps.{IsFaultOf, waits};
 ghost use Rattle.master_read.specs.ZoneText.{Include, with_entries};
 
 use crate::context::Context;
-use crate::directive::is_include;
+use crate::directive::{is_directive_in_text, is_include};
 use crate::fault::TextFault;
 use crate::records::Records;
 use dns_data::NoMemory;
-use master_lex::{Entry, LexFault, Lexer, TakeFault, Taken};
+use master_lex::{Entry, LexFault, Lexer, PlainLine, TakeFault, Taken, TextEntry, TextToken};
 use std::alloc::Global;
 use std::collections::VecDeque;
 
@@ -47,7 +48,6 @@ pub(crate) fn take_all(
     ensures finished { lexer.new.finished ≡ lexer.old.finished }
     ensures fed { lexer.new.fed ≡ lexer.old.fed }
 {
-    lexer.take_ready(entries);
     loop {
         match lexer.take(alloc) {
             Ok(Taken::Entry(entry)) => entries.push_back(entry)?,
@@ -59,10 +59,9 @@ pub(crate) fn take_all(
     }
 }
 
-/// Reads the entries in front, up to an `$INCLUDE`, of the file of this number, and hands them back to the lexer.
+/// Reads the entries in front, up to an `$INCLUDE`, of the file of this number.
 pub(crate) fn read_ready(
     alloc: Global,
-    lexer: &mut Lexer,
     records: &mut Records,
     room: u32,
     file: u32,
@@ -75,14 +74,60 @@ pub(crate) fn read_ready(
     ensures fault { (include : Include) (behind : List LexEntry) (texts : List (List ℕ))
         → IfErr result (λ fault. IsFaultOf fault (with_entries include room file (entries.old.items ++ behind) (record { records = records.old; texts = texts }))) }
     ensures tells { IfErr result TellsOfText }
-    ensures lexer { lexer.new ≡ lexer.old }
 {
     while let Some(entry) = pop_plain(entries) {
         if let Err(fault) = records.read(alloc, room, file, &entry) {
             return Err(fault.at(file, entry.line));
         }
-        lexer.hand_back(entry);
     }
+    Ok(())
+}
+
+/// Reads the entry of a plain line of the file of this number, with these tokens, if it has one; or puts it among the
+/// entries that wait, if there are such or it is an `$INCLUDE`.
+pub(crate) fn read_line(
+    alloc: Global,
+    records: &mut Records,
+    room: u32,
+    file: u32,
+    line: PlainLine,
+    tokens: &[TextToken<'_>],
+    entries: &mut VecDeque<Entry>,
+) -> Result<(), TextFault>
+    ensures read { (include : Include) (behind : List LexEntry) (texts : List (List ℕ))
+        → OnOk result (with_entries include room file ((entries.old.items ++ line_entries line tokens.now) ++ behind) (record { records = records.old; texts = texts })
+        ≡ with_entries include room file (entries.new.items ++ behind) (record { records = records.new; texts = texts })) }
+    ensures fault { (include : Include) (behind : List LexEntry) (texts : List (List ℕ))
+        → IfErr result (λ fault. IsFaultOf fault (with_entries include room file ((entries.old.items ++ line_entries line tokens.now) ++ behind) (record { records = records.old; texts = texts }))) }
+    ensures tells { IfErr result TellsOfText }
+{
+    if tokens.is_empty() {
+        return Ok(());
+    }
+    let entry = TextEntry::new(line.line, line.blank_start, tokens);
+    if !entries.is_empty() {
+        put_entry(alloc, &entry, entries)?;
+        return Ok(());
+    }
+    if is_directive_in_text(&entry) {
+        put_entry(alloc, &entry, entries)?;
+        return read_ready(alloc, records, room, file, entries);
+    }
+    match records.read_record(alloc, room, file, &entry) {
+        Ok(()) => Ok(()),
+        Err(fault) => Err(fault.at(file, line.line)),
+    }
+}
+
+/// Puts an entry, whose tokens stand in the text, behind the others.
+fn put_entry(
+    alloc: Global,
+    entry: &TextEntry<'_, '_>,
+    entries: &mut VecDeque<Entry>,
+) -> Result<(), NoMemory>
+    ensures { OnOk result (entries.new.items ≡ entries.old.items ++ entry.now ∷ []) }
+{
+    entries.push_back(entry.to_entry(alloc)?)?;
     Ok(())
 }
 

@@ -5,23 +5,23 @@ ghost use Rattle.master_read.specs.Entries.{begins_with_digit, one_more, front_i
 
 use crate::fault::TextCause;
 use crate::words::{ClassWord, class_word};
-use master_lex::Token;
+use master_lex::TextToken;
 use rdata_forms::read_ttl;
 
 /// What stood in front of a record's type so far, behind the owner.
 #[derive(Clone, Copy, Debug)]
-pub(crate) struct Front<'a> {
+pub(crate) struct Front<'t, 'a> {
     /// The TTL, in seconds.
     pub ttl: Option<u32>,
     /// Whether the class stood there.
     pub has_class: bool,
     /// The tokens from there on.
-    pub tokens: &'a [Token],
+    pub tokens: &'t [TextToken<'a>],
 }
 
 /// What stands in front of the type: a TTL and a class, in either order, each at most once.
 #[tactic(auto, unfolding(crate::specs::Entries::front_in))]
-pub(crate) fn read_front(tokens: &[Token]) -> Result<Front<'_>, TextCause>
+pub(crate) fn read_front<'t, 'a>(tokens: &'t [TextToken<'a>]) -> Result<Front<'t, 'a>, TextCause>
     ensures { MatchResult result
         (λ front. front_in tokens.now ≡ Ok (record { ttl = front.ttl; class = front.has_class; tokens = front.tokens.now }))
         (λ cause. front_in tokens.now ≡ Err cause) }
@@ -36,7 +36,7 @@ pub(crate) fn read_front(tokens: &[Token]) -> Result<Front<'_>, TextCause>
 
 /// What stood in front so far with the next token, if that is a TTL or a class and none such stood there.
 #[tactic(auto, unfolding(crate::specs::Entries::one_more))]
-fn one_more(front: Front<'_>) -> Result<Front<'_>, TextCause>
+fn one_more<'t, 'a>(front: Front<'t, 'a>) -> Result<Front<'t, 'a>, TextCause>
     ensures { MatchResult result
         (λ more. one_more (record { ttl = front.entry.ttl; class = front.entry.has_class; tokens = front.entry.tokens.now })
         ≡ Ok (record { ttl = more.ttl; class = more.has_class; tokens = more.tokens.now }))
@@ -45,10 +45,10 @@ fn one_more(front: Front<'_>) -> Result<Front<'_>, TextCause>
     let [token, tokens @ ..] = front.tokens else {
         return Ok(front);
     };
-    if token.quoted {
+    if token.is_quoted() {
         return Ok(front);
     }
-    let word = token.raw.items();
+    let word = token.raw();
     if front.ttl.is_none() && begins_with_digit(word) {
         return match read_ttl(word) {
             Some(ttl) => Ok(Front {

@@ -10,9 +10,10 @@
 //! definition is that of the texts' entries (master_lex's `text_entries`), each read in the context that those before
 //! it leave; and a fault that lies in a name or in data is never `NoMemory`.
 //!
-//! Costs: each octet is looked at a bounded number of times, by the lexer and by the reading of its entry. The entries
-//! that end in 2,048 octets, and the one under way, are held until they are read, and those behind them have their room. A record takes memory for its data and its owner, and the last owner is kept once more, and again for
-//! each file around. None is taken for the comparison of a word.
+//! Costs: each octet is looked at a bounded number of times, by the lexer and by the reading of its entry. The tokens of
+//! a plain line (`Lexer::pass_line`) are read where they stand in the piece; those of another entry are held until it ends.
+//! A record takes memory for its data and its owner, and the last owner is kept once more, and again for each file around.
+//! None is taken for the comparison of a word.
 #![tactic(auto)]
 
 mod asked;

@@ -1,6 +1,6 @@
 //! The reader.
 
-ghost use Rattle.std.specs.Prelude.{◌≡◌, ◌≢◌, ◌+◌, ◌-◌, ◌^◌, ◌<◌, ◌≤◌, ℕ, List, [], ◌∷◌, ◌++◌, length, true, false, Some, Err, IfOk, IfErr, IsErr, OnOk, OnErr, MatchBool};
+ghost use Rattle.std.specs.Prelude.{◌≡◌, ◌≢◌, ◌+◌, ◌-◌, ◌^◌, ◌<◌, ◌≤◌, ℕ, List, [], ◌∷◌, ◌++◌, length, take, true, false, Some, Err, IfOk, IfErr, IsErr, OnOk, OnErr, MatchBool};
 ghost use Rattle.dns_data.specs.Answers.{AnswersOr, with_fault};
 ghost use Rattle.dns_data.specs.Name.{Labels};
 ghost use Rattle.master_lex.specs.Lexer.{IsLexerOf};
@@ -14,11 +14,11 @@ use crate::asked::AfterFile;
 use crate::context::Context;
 use crate::directive::{Include, read_include};
 use crate::fault::{EntryFault, TextCause, TextFault};
-use crate::file::{File, read_ready, take_all};
+use crate::file::{File, read_line, read_ready, take_all};
 use crate::records::{ReadLimits, Records};
 use crate::zone_text::ZoneText;
 use dns_data::{Name, NoMemory, Text};
-use master_lex::{Entry, Lexer};
+use master_lex::{Entry, Lexer, TextToken};
 use std::alloc::Global;
 use std::collections::VecDeque;
 use std::marker::Model;
@@ -26,9 +26,6 @@ use std::mem;
 
 /// How many levels of included files may lie below a zone's file.
 const MOST_LEVELS: u32 = 8;
-
-/// How many octets of a piece are read at a time, so that few entries are held and those behind them have their room.
-const PART: usize = 2048;
 
 /// The records of a zone's files, from octets that come in pieces. The result is the same however the octets are cut.
 #[derive(Debug, Drop)]
@@ -168,13 +165,51 @@ impl ZoneReader {
         ensures tells { IfErr result TellsOfText }
         ensures same { self.new ≡ record self.old { lexer = self.new.lexer; file = self.new.file; records = self.new.records } }
     {
+        let mut tokens = Vec::new(alloc);
         let mut rest = piece;
         while !rest.is_empty() {
-            let (part, after) = rest.split_at(rest.len().min(PART));
-            self.read_part(alloc, part)?;
-            rest = after;
+            let count = self.read_next(alloc, rest, &mut tokens)?;
+            rest = &rest[count..];
         }
         Ok(())
+    }
+
+    /// Reads the next line of the file that is open, as far as its octets are there, and says how many these are. A plain
+    /// line is read where it stands.
+    fn read_next<'a>(
+        &mut self,
+        alloc: Global,
+        octets: &'a [u8],
+        tokens: &mut Vec<TextToken<'a>>,
+    ) -> Result<usize, TextFault>
+        requires some { 0 < length octets.now }
+        requires short { self.old.lexer.fed + length octets.now < 2 ^ 32 - 1 }
+        requires within { self.old.lexer.fed + length octets.now ≤ self.old.fed }
+        ensures read { (origin : Labels) (ended : List (List ℕ)) (text : List ℕ) → IsReading self.old origin ended text
+            → IfOk result (λ count. IsReading self.new origin ended (text ++ take count octets.now)) }
+        ensures fault { (origin : Labels) (ended : List (List ℕ)) (text : List ℕ) → IsReading self.old origin ended text
+            → IfErr result (λ fault. fault ≢ TextFault.NoMemory → IsSettled fault self.old.limits origin ended (text ++ octets.now)) }
+        ensures tells { IfErr result TellsOfText }
+        ensures some { IfOk result (λ count. 0 < count) }
+        ensures within { IfOk result (λ count. count ≤ length octets.now) }
+        ensures fed { IfOk result (λ count. self.new.lexer.fed ≡ self.old.lexer.fed + count) }
+        ensures same { self.new ≡ record self.old { lexer = self.new.lexer; file = self.new.file; records = self.new.records } }
+    {
+        let Some(line) = self.lexer.pass_line(octets, tokens) else {
+            let count = line_len(octets);
+            self.read_part(alloc, &octets[..count])?;
+            return Ok(count);
+        };
+        read_line(
+            alloc,
+            &mut self.records,
+            self.limits.room,
+            self.file.number,
+            line,
+            tokens,
+            &mut self.file.entries,
+        )?;
+        Ok(line.octets)
     }
 
     /// Reads the next octets of the file that is open, up to an `$INCLUDE`.
@@ -193,7 +228,6 @@ impl ZoneReader {
         take_all(alloc, &mut self.lexer, &mut self.file.entries)?;
         read_ready(
             alloc,
-            &mut self.lexer,
             &mut self.records,
             self.limits.room,
             self.file.number,
@@ -248,7 +282,6 @@ impl ZoneReader {
         loop {
             read_ready(
                 alloc,
-                &mut self.lexer,
                 &mut self.records,
                 self.limits.room,
                 self.file.number,
@@ -351,6 +384,17 @@ impl ZoneReader {
     {
         self.ended = true;
         AfterFile::Done
+    }
+}
+
+/// How many octets stand in front up to the first line feed, with it, or all.
+fn line_len(octets: &[u8]) -> usize
+    ensures within { result ≤ length octets.now }
+    ensures some { 0 < length octets.now → 0 < result }
+{
+    match octets.iter().position(|octet| *octet == b'\n') {
+        Some(place) => place + 1,
+        None => octets.len(),
     }
 }
 

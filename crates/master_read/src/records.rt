@@ -3,7 +3,7 @@
 ghost use Rattle.std.specs.Prelude.{◌≡◌, ◌+◌, ◌^◌, ◌<◌, false, Ok, Err, IfOk, IfErr, OnOk};
 ghost use Rattle.dns_data.specs.Answers.{AnswersOr, with_fault};
 ghost use Rattle.master_read.specs.Context.{no_context, under, back_at};
-ghost use Rattle.master_read.specs.Directives.{is_include};
+ghost use Rattle.master_read.specs.Directives.{is_directive, is_include};
 ghost use Rattle.master_read.specs.ZoneText.{Leaves, no_records, effect_of, with_made, zone_text_of};
 
 use crate::context::Context;
@@ -12,7 +12,7 @@ use crate::fault::{EntryFault, TextCause};
 use crate::rr::read_record;
 use crate::zone_text::ZoneText;
 use dns_data::{List, Name, NoMemory, Rr};
-use master_lex::Entry;
+use master_lex::{Entry, TextEntry, tokens_in_text};
 use std::alloc::Global;
 use std::mem;
 
@@ -67,6 +67,24 @@ impl Records {
         if is_directive(entry) {
             return read_directive(alloc, &mut self.context, entry.tokens.items());
         }
+        let tokens = tokens_in_text(alloc, entry.tokens.items())?;
+        let entry = TextEntry::new(entry.line, entry.blank_start, &tokens);
+        self.read_record(alloc, room, file, &entry)
+    }
+
+    /// Reads one entry more of the file of this number, which is no directive.
+    #[tactic(auto, unfolding(crate::specs::ZoneText::effect_of))]
+    pub(crate) fn read_record(
+        &mut self,
+        alloc: Global,
+        room: u32,
+        file: u32,
+        entry: &TextEntry<'_, '_>,
+    ) -> Result<(), EntryFault>
+        requires { is_directive entry.now ≡ false }
+        ensures ok { OnOk result (effect_of room file self.old entry.now ≡ Ok (Leaves self.new)) }
+        ensures fault { IfErr result (λ fault. AnswersOr EntryFault.NoMemory (Err fault) (with_fault EntryFault.Cause (effect_of room file self.old entry.now))) }
+    {
         let rr = read_record(alloc, &mut self.context, file, entry)?;
         self.keep(room, rr)
     }

@@ -11,8 +11,8 @@ use crate::fault::{EntryFault, TextCause};
 use crate::front::read_front;
 use crate::words::{TypeWord, type_word};
 use dns_data::{Name, NameFault, NoMemory, Octets, Rdata, Rr};
-use master_lex::{Entry, Token};
-use rdata_forms::{RdataFault, read_other, read_rdata};
+use master_lex::{TextEntry, TextToken};
+use rdata_forms::{RdataFault, read_other_in_text, read_rdata_in_text};
 use std::alloc::Global;
 
 /// The record of a record entry of the file of this number, or `None` where its type is dropped. What it leaves for
@@ -22,7 +22,7 @@ pub(crate) fn read_record(
     alloc: Global,
     context: &mut Context,
     file: u32,
-    entry: &Entry,
+    entry: &TextEntry<'_, '_>,
 ) -> Result<Option<Rr>, EntryFault>
     ensures ok { IfOk result (λ rr. record_of file context.old entry.now ≡ Ok (record { context = context.new; rr = rr })) }
     ensures fault { IfErr result (λ fault. AnswersOr EntryFault.NoMemory (Err fault) (with_fault EntryFault.Cause (record_of file context.old entry.now))) }
@@ -31,16 +31,20 @@ pub(crate) fn read_record(
     let front = read_front(behind_owner(entry))?;
     let owner = remember(alloc, context, entry, owner, front.ttl)?;
     let rdata = read_data(alloc, front.tokens, &context.origin)?;
-    Ok(with_ttl(context, owner, front.ttl, file, entry.line, rdata)?)
+    Ok(with_ttl(context, owner, front.ttl, file, entry.line(), rdata)?)
 }
 
 /// The owner of a record entry.
 #[tactic(auto, unfolding(crate::specs::Entries::owner_of))]
-fn read_owner(alloc: Global, context: &Context, entry: &Entry) -> Result<Name, EntryFault>
+fn read_owner(
+    alloc: Global,
+    context: &Context,
+    entry: &TextEntry<'_, '_>,
+) -> Result<Name, EntryFault>
     ensures { AnswersOr EntryFault.NoMemory result (with_fault EntryFault.Cause (owner_of context.now entry.now)) }
 {
-    if !entry.blank_start {
-        return written_owner(alloc, context, entry.tokens.items());
+    if !entry.blank_start() {
+        return written_owner(alloc, context, entry.tokens());
     }
     match &context.owner {
         Some(owner) => Ok(owner.copy(alloc)?),
@@ -49,13 +53,17 @@ fn read_owner(alloc: Global, context: &Context, entry: &Entry) -> Result<Name, E
 }
 
 /// The owner that the first token gives.
-fn written_owner(alloc: Global, context: &Context, tokens: &[Token]) -> Result<Name, EntryFault>
+fn written_owner(
+    alloc: Global,
+    context: &Context,
+    tokens: &[TextToken<'_>],
+) -> Result<Name, EntryFault>
     ensures { AnswersOr EntryFault.NoMemory result (with_fault EntryFault.Cause (written_owner context.now tokens.now)) }
 {
     let [token, ..] = tokens else {
         return Err(EntryFault::Cause(TextCause::NoType));
     };
-    match Name::from_text(alloc, token.raw.items(), &context.origin) {
+    match Name::from_text(alloc, token.raw(), &context.origin) {
         Ok(owner) => Ok(owner),
         Err(NameFault::NoMemory) => Err(EntryFault::NoMemory),
         Err(fault) => Err(EntryFault::Cause(TextCause::BadOwner(fault))),
@@ -63,18 +71,22 @@ fn written_owner(alloc: Global, context: &Context, tokens: &[Token]) -> Result<N
 }
 
 /// The tokens behind the owner.
-fn behind_owner(entry: &Entry) -> &[Token]
+fn behind_owner<'t, 'a>(entry: &TextEntry<'t, 'a>) -> &'t [TextToken<'a>]
     ensures { result.now ≡ behind_owner entry.now }
 {
-    match entry.tokens.items() {
-        [_, tokens @ ..] if !entry.blank_start => tokens,
+    match entry.tokens() {
+        [_, tokens @ ..] if !entry.blank_start() => tokens,
         tokens => tokens,
     }
 }
 
 /// The data behind the type's word, or `None` where the type is dropped.
 #[tactic(auto, unfolding(crate::specs::Entries::data_behind))]
-fn read_data(alloc: Global, tokens: &[Token], origin: &Name) -> Result<Option<Rdata>, EntryFault>
+fn read_data(
+    alloc: Global,
+    tokens: &[TextToken<'_>],
+    origin: &Name,
+) -> Result<Option<Rdata>, EntryFault>
     ensures { AnswersOr EntryFault.NoMemory result (with_fault EntryFault.Cause (data_behind tokens.now origin.now)) }
 {
     let [word, fields @ ..] = tokens else {
@@ -86,30 +98,30 @@ fn read_data(alloc: Global, tokens: &[Token], origin: &Name) -> Result<Option<Rd
 
 /// What the token where the type stands says.
 #[tactic(auto, unfolding(crate::specs::Entries::type_said))]
-fn type_said(token: &Token) -> Result<TypeWord, TextCause>
+fn type_said(token: &TextToken<'_>) -> Result<TypeWord, TextCause>
     ensures { result ≡ type_said token.now }
 {
-    if token.quoted {
+    if token.is_quoted() {
         return Err(TextCause::UnknownType);
     }
-    type_word(token.raw.items()).ok_or(TextCause::UnknownType)
+    type_word(token.raw()).ok_or(TextCause::UnknownType)
 }
 
 /// The data of a type, or `None` where it is dropped.
 fn data_by(
     alloc: Global,
     said: TypeWord,
-    word: &Token,
-    fields: &[Token],
+    word: &TextToken<'_>,
+    fields: &[TextToken<'_>],
     origin: &Name,
 ) -> Result<Option<Rdata>, EntryFault>
     ensures { AnswersOr EntryFault.NoMemory result (with_fault EntryFault.Cause (data_by said word.now fields.now origin.now)) }
 {
     match said {
-        TypeWord::Known(rtype) => kept(read_rdata(alloc, rtype, fields, origin)),
+        TypeWord::Known(rtype) => kept(read_rdata_in_text(alloc, rtype, fields, origin)),
         TypeWord::Other => {
-            let upper = upper_case(alloc, word.raw.items())?;
-            kept(read_other(alloc, upper.items(), fields))
+            let upper = upper_case(alloc, word.raw())?;
+            kept(read_other_in_text(alloc, upper.items(), fields))
         }
         TypeWord::Dropped => Ok(None),
     }
@@ -146,7 +158,7 @@ fn raised(octet: u8) -> u8
 fn remember(
     alloc: Global,
     context: &mut Context,
-    entry: &Entry,
+    entry: &TextEntry<'_, '_>,
     owner: Name,
     ttl: Option<u32>,
 ) -> Result<Name, NoMemory>
@@ -155,7 +167,7 @@ fn remember(
     ensures context { OnOk result (context.new ≡ behind_record context.old owner ttl) }
 {
     context.stated_ttl = ttl.or(context.stated_ttl);
-    if entry.blank_start {
+    if entry.blank_start() {
         return Ok(owner);
     }
     // The record keeps the copy, which has no more room than it needs.

@@ -11,37 +11,37 @@ use crate::field::{
 use crate::ipv4::read_ipv4;
 use crate::ipv6::read_ipv6;
 use dns_data::{List, Name, Octets, Rdata};
-use master_lex::Token;
+use master_lex::TextToken;
 use std::alloc::Global;
 
 /// An IPv4 address (RFC 1035 section 3.4.1).
-pub(crate) fn read_a(tokens: &[Token]) -> Result<Rdata, RdataFault>
+pub(crate) fn read_a(tokens: &[TextToken<'_>]) -> Result<Rdata, RdataFault>
     ensures { result ≡ a_of (written tokens.now) }
 {
     let [address] = tokens else {
         return Err(RdataFault::FieldCount);
     };
-    match read_ipv4(address.raw.items()) {
+    match read_ipv4(address.raw()) {
         Some(address) => Ok(Rdata::A(address)),
         None => Err(RdataFault::BadAddress),
     }
 }
 
 /// An IPv6 address (RFC 3596 section 2.4).
-pub(crate) fn read_aaaa(tokens: &[Token]) -> Result<Rdata, RdataFault>
+pub(crate) fn read_aaaa(tokens: &[TextToken<'_>]) -> Result<Rdata, RdataFault>
     ensures { result ≡ aaaa_of (written tokens.now) }
 {
     let [address] = tokens else {
         return Err(RdataFault::FieldCount);
     };
-    match read_ipv6(address.raw.items()) {
+    match read_ipv6(address.raw()) {
         Some(address) => Ok(Rdata::Aaaa(address)),
         None => Err(RdataFault::BadAddress),
     }
 }
 
 /// One name.
-fn read_one_name(alloc: Global, tokens: &[Token], origin: &Name) -> Result<Name, RdataFault>
+fn read_one_name(alloc: Global, tokens: &[TextToken<'_>], origin: &Name) -> Result<Name, RdataFault>
     ensures { AnswersOr RdataFault.NoMemory result (one_name origin.now (written tokens.now)) }
 {
     let [name] = tokens else {
@@ -51,7 +51,11 @@ fn read_one_name(alloc: Global, tokens: &[Token], origin: &Name) -> Result<Name,
 }
 
 /// A name server (RFC 1035 section 3.3.11).
-pub(crate) fn read_ns(alloc: Global, tokens: &[Token], origin: &Name) -> Result<Rdata, RdataFault>
+pub(crate) fn read_ns(
+    alloc: Global,
+    tokens: &[TextToken<'_>],
+    origin: &Name,
+) -> Result<Rdata, RdataFault>
     ensures { AnswersOr RdataFault.NoMemory result (ns_of origin.now (written tokens.now)) }
 {
     Ok(Rdata::Ns(read_one_name(alloc, tokens, origin)?))
@@ -60,7 +64,7 @@ pub(crate) fn read_ns(alloc: Global, tokens: &[Token], origin: &Name) -> Result<
 /// A canonical name (RFC 1035 section 3.3.1).
 pub(crate) fn read_cname(
     alloc: Global,
-    tokens: &[Token],
+    tokens: &[TextToken<'_>],
     origin: &Name,
 ) -> Result<Rdata, RdataFault>
     ensures { AnswersOr RdataFault.NoMemory result (cname_of origin.now (written tokens.now)) }
@@ -69,7 +73,11 @@ pub(crate) fn read_cname(
 }
 
 /// A pointer (RFC 1035 section 3.3.12).
-pub(crate) fn read_ptr(alloc: Global, tokens: &[Token], origin: &Name) -> Result<Rdata, RdataFault>
+pub(crate) fn read_ptr(
+    alloc: Global,
+    tokens: &[TextToken<'_>],
+    origin: &Name,
+) -> Result<Rdata, RdataFault>
     ensures { AnswersOr RdataFault.NoMemory result (ptr_of origin.now (written tokens.now)) }
 {
     Ok(Rdata::Ptr(read_one_name(alloc, tokens, origin)?))
@@ -78,7 +86,7 @@ pub(crate) fn read_ptr(alloc: Global, tokens: &[Token], origin: &Name) -> Result
 /// A redirection of a subtree (RFC 6672 section 2.1).
 pub(crate) fn read_dname(
     alloc: Global,
-    tokens: &[Token],
+    tokens: &[TextToken<'_>],
     origin: &Name,
 ) -> Result<Rdata, RdataFault>
     ensures { AnswersOr RdataFault.NoMemory result (dname_of origin.now (written tokens.now)) }
@@ -87,7 +95,11 @@ pub(crate) fn read_dname(
 }
 
 /// A start of authority: two names, a number and four times (RFC 1035 section 3.3.13).
-pub(crate) fn read_soa(alloc: Global, tokens: &[Token], origin: &Name) -> Result<Rdata, RdataFault>
+pub(crate) fn read_soa(
+    alloc: Global,
+    tokens: &[TextToken<'_>],
+    origin: &Name,
+) -> Result<Rdata, RdataFault>
     ensures { AnswersOr RdataFault.NoMemory result (soa_of origin.now (written tokens.now)) }
 {
     let [mname, rname, serial, refresh, retry, expire, minimum] = tokens else {
@@ -105,7 +117,7 @@ pub(crate) fn read_soa(alloc: Global, tokens: &[Token], origin: &Name) -> Result
 }
 
 /// A processor and an operating system (RFC 1035 section 3.3.2).
-pub(crate) fn read_hinfo(alloc: Global, tokens: &[Token]) -> Result<Rdata, RdataFault>
+pub(crate) fn read_hinfo(alloc: Global, tokens: &[TextToken<'_>]) -> Result<Rdata, RdataFault>
     ensures { AnswersOr RdataFault.NoMemory result (hinfo_of (written tokens.now)) }
 {
     let [cpu, os] = tokens else {
@@ -118,7 +130,11 @@ pub(crate) fn read_hinfo(alloc: Global, tokens: &[Token]) -> Result<Rdata, Rdata
 }
 
 /// A mail exchange: a number and a name (RFC 1035 section 3.3.9).
-pub(crate) fn read_mx(alloc: Global, tokens: &[Token], origin: &Name) -> Result<Rdata, RdataFault>
+pub(crate) fn read_mx(
+    alloc: Global,
+    tokens: &[TextToken<'_>],
+    origin: &Name,
+) -> Result<Rdata, RdataFault>
     ensures { AnswersOr RdataFault.NoMemory result (mx_of origin.now (written tokens.now)) }
 {
     let [preference, exchange] = tokens else {
@@ -131,7 +147,7 @@ pub(crate) fn read_mx(alloc: Global, tokens: &[Token], origin: &Name) -> Result<
 }
 
 /// One or more texts (RFC 1035 section 3.3.14).
-pub(crate) fn read_txt(alloc: Global, tokens: &[Token]) -> Result<Rdata, RdataFault>
+pub(crate) fn read_txt(alloc: Global, tokens: &[TextToken<'_>]) -> Result<Rdata, RdataFault>
     ensures { AnswersOr RdataFault.NoMemory result (txt_of (written tokens.now)) }
 {
     if tokens.is_empty() {
@@ -141,7 +157,7 @@ pub(crate) fn read_txt(alloc: Global, tokens: &[Token]) -> Result<Rdata, RdataFa
 }
 
 /// Strings.
-fn read_strings(alloc: Global, tokens: &[Token]) -> Result<List<Octets>, RdataFault>
+fn read_strings(alloc: Global, tokens: &[TextToken<'_>]) -> Result<List<Octets>, RdataFault>
     ensures { AnswersOr RdataFault.NoMemory result (strings_of (written tokens.now)) }
 {
     let mut strings = Vec::with_capacity(alloc, tokens.len())?;
@@ -152,7 +168,11 @@ fn read_strings(alloc: Global, tokens: &[Token]) -> Result<List<Octets>, RdataFa
 }
 
 /// The place of a service: three numbers and a name (RFC 2782).
-pub(crate) fn read_srv(alloc: Global, tokens: &[Token], origin: &Name) -> Result<Rdata, RdataFault>
+pub(crate) fn read_srv(
+    alloc: Global,
+    tokens: &[TextToken<'_>],
+    origin: &Name,
+) -> Result<Rdata, RdataFault>
     ensures { AnswersOr RdataFault.NoMemory result (srv_of origin.now (written tokens.now)) }
 {
     let [priority, weight, port, target] = tokens else {
@@ -167,7 +187,7 @@ pub(crate) fn read_srv(alloc: Global, tokens: &[Token], origin: &Name) -> Result
 }
 
 /// Which authorities may issue certificates: a number, a tag and a string (RFC 8659 section 4.1).
-pub(crate) fn read_caa(alloc: Global, tokens: &[Token]) -> Result<Rdata, RdataFault>
+pub(crate) fn read_caa(alloc: Global, tokens: &[TextToken<'_>]) -> Result<Rdata, RdataFault>
     ensures { AnswersOr RdataFault.NoMemory result (caa_of (written tokens.now)) }
 {
     let [flags, tag, value] = tokens else {

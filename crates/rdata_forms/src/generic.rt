@@ -7,39 +7,39 @@ ghost use Rattle.std.specs.List.{list_all, concat};
 
 use crate::ipv6::hex_value;
 use dns_data::read_number;
-use master_lex::Token;
+use master_lex::TextToken;
 
 /// Whether the first token isn't quoted and reads `\#`.
-pub(crate) fn is_generic(tokens: &[Token]) -> bool
+pub(crate) fn is_generic(tokens: &[TextToken<'_>]) -> bool
     ensures { result ≡ begins_generic tokens.now }
 {
     match tokens {
-        [first, ..] => !first.quoted && first.raw.items() == b"\\#".as_slice(),
+        [first, ..] => !first.is_quoted() && first.raw() == b"\\#".as_slice(),
         [] => false,
     }
 }
 
 /// Whether behind the first token a length of up to 65,535 and exactly this many octets in hexadecimal stand, however
 /// the digits are cut into tokens.
-pub(crate) fn is_generic_form(tokens: &[Token]) -> bool
+pub(crate) fn is_generic_form(tokens: &[TextToken<'_>]) -> bool
     ensures { result ≡ has_generic_form (written tokens.now) }
 {
     let [_, octets, digits @ ..] = tokens else {
         return false;
     };
-    match read_number(octets.raw.items(), 5, 65535) {
+    match read_number(octets.raw(), 5, 65535) {
         Some(octets) => are_digits(digits, 2 * octets as usize),
         None => false,
     }
 }
 
 /// Whether the tokens have this many hexadecimal digits together, and nothing else.
-fn are_digits(tokens: &[Token], count: usize) -> bool
+fn are_digits(tokens: &[TextToken<'_>], count: usize) -> bool
     ensures { result ≡ (list_all is_hex (concat (written tokens.now)) && (length (concat (written tokens.now)) == count)) }
 {
     let mut left = count;
     for token in tokens {
-        let digits = token.raw.items();
+        let digits = token.raw();
         if digits.len() > left || !are_hex(digits) {
             return false;
         }

@@ -8,7 +8,7 @@ use crate::fault::RdataFault;
 use crate::forms;
 use crate::generic::{is_generic, is_generic_form};
 use dns_data::{Boxed, List, Name, NameFault, Octets, Rdata, RrType};
-use master_lex::Token;
+use master_lex::{TextToken, Token, tokens_in_text};
 use std::alloc::Global;
 
 /// The data of a type that the tokens stand for under an origin. Of several faults it is the first of these:
@@ -25,6 +25,20 @@ pub fn read_rdata(
     ensures answers { AnswersOr RdataFault.NoMemory result (rdata_of rtype tokens.now origin.now) }
     ensures named { result ≢ Err (RdataFault.BadName NameFault.NoMemory) }
 {
+    let tokens = tokens_in_text(alloc, tokens)?;
+    read_rdata_in_text(alloc, rtype, &tokens, origin)
+}
+
+/// What `read_rdata` answers of these tokens, which stand in a text.
+pub fn read_rdata_in_text(
+    alloc: Global,
+    rtype: RrType,
+    tokens: &[TextToken<'_>],
+    origin: &Name,
+) -> Result<Rdata, RdataFault>
+    ensures answers { AnswersOr RdataFault.NoMemory result (rdata_of rtype tokens.now origin.now) }
+    ensures named { result ≢ Err (RdataFault.BadName NameFault.NoMemory) }
+{
     if is_generic(tokens) {
         return Err(RdataFault::GenericKnown);
     }
@@ -35,7 +49,7 @@ pub fn read_rdata(
 fn read_fields(
     alloc: Global,
     rtype: RrType,
-    tokens: &[Token],
+    tokens: &[TextToken<'_>],
     origin: &Name,
 ) -> Result<Rdata, RdataFault>
     ensures { AnswersOr RdataFault.NoMemory result (fields_of rtype (written tokens.now) origin.now) }
@@ -63,6 +77,19 @@ pub fn read_other(alloc: Global, word: &[u8], tokens: &[Token]) -> Result<Rdata,
     ensures answers { AnswersOr RdataFault.NoMemory result (other_of word.now tokens.now) }
     ensures fault { IfErr result (λ fault. (fault ≡ RdataFault.BadHex) ⊎ (fault ≡ RdataFault.NoMemory)) }
 {
+    let tokens = tokens_in_text(alloc, tokens)?;
+    read_other_in_text(alloc, word, &tokens)
+}
+
+/// What `read_other` answers of these tokens, which stand in a text.
+pub fn read_other_in_text(
+    alloc: Global,
+    word: &[u8],
+    tokens: &[TextToken<'_>],
+) -> Result<Rdata, RdataFault>
+    ensures answers { AnswersOr RdataFault.NoMemory result (other_of word.now tokens.now) }
+    ensures fault { IfErr result (λ fault. (fault ≡ RdataFault.BadHex) ⊎ (fault ≡ RdataFault.NoMemory)) }
+{
     if is_generic(tokens) && !is_generic_form(tokens) {
         return Err(RdataFault::BadHex);
     }
@@ -72,13 +99,13 @@ pub fn read_other(alloc: Global, word: &[u8], tokens: &[Token]) -> Result<Rdata,
 }
 
 /// The tokens as they are written.
-fn copies(alloc: Global, tokens: &[Token]) -> Result<List<Octets>, RdataFault>
+fn copies(alloc: Global, tokens: &[TextToken<'_>]) -> Result<List<Octets>, RdataFault>
     ensures ok { IfOk result (λ copies. copies ≡ written tokens.now) }
     ensures err { IfErr result (λ fault. fault ≡ RdataFault.NoMemory) }
 {
     let mut copies = Vec::with_capacity(alloc, tokens.len())?;
     for token in tokens {
-        copies.push(token.raw.copy(alloc)?)?;
+        copies.push(Octets::from_octets(alloc, token.raw())?)?;
     }
     Ok(List::from_vec(copies))
 }

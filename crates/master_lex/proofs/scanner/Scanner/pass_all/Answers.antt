@@ -5,13 +5,8 @@ use Rattle.std.proofs.lemmas.List.{take_all}
 use Rattle.master_lex.specs.States.{state_of, run}
 use Rattle.master_lex.specs.Undo.{Grew}
 use Rattle.master_lex.proofs.UndoLemmas.{halfway_grew}
-use Rattle.master_lex.proofs.Reached.{rest_within, reached, reached_more, octet_more}
+use Rattle.master_lex.proofs.Reached.{reached, reached_more, octet_more}
 use Rattle.master_lex.proofs.scanner.Scanner.pass_all.Goals as goal
-
-pub pass_plain-requires : goal.pass_plain-requires
-pass_plain-requires c =
-    let r = reached (state_of c.args.self.now) _ c.args.octets.now _ c.requires.tidy c.loop-passed.invariant in
-    record { tidy = r.far.tidy; line = omega (arith, r.far.line, c.requires.line, rest_within c.args.octets.now c.loop-passed.passed r.first.within) }
 
 pub returns-in_err-passed-clause-err : goal.returns-in_err-passed-clause-err
 returns-in_err-passed-clause-err c =

@@ -1,36 +1,19 @@
--- The line was passed over octet by octet, or given up.
-use Rattle.std.proofs.Common.{◌≡◌, ◌<◌, refl, ap, arith, rules}
-use Rattle.master_lex.specs.States.{LexState, state_of, entry_ended}
-use Rattle.master_lex.specs.Lines.{IsAtLine}
-use Rattle.master_lex.proofs.Lines.{line_passed, given_up}
+-- The line was passed over octet by octet, and its entry taken.
+use Rattle.std.proofs.Common.{◌+◌, [], get_or, subst, sym, arith, rules}
+use Rattle.master_lex.specs.declared.line.PlainLine.{PlainLine}
+use Rattle.master_lex.specs.Octets.{is_space}
+use Rattle.master_lex.specs.States.{LexState, state_of, start_of}
+use Rattle.master_lex.specs.Lines.{HoldsNothing, HasPassedLine}
+use Rattle.master_lex.proofs.Lines.{line_passed}
+use Rattle.master_lex.proofs.UndoLemmas.{same_state}
 use Rattle.master_lex.proofs.scanner.Scanner.pass_line.Goals as goal
 
-pub returns-then-count-eq0 : goal.returns-then-count-eq0
-returns-then-count-eq0 c =
+pub returns-clause-some : goal.returns-clause-some
+returns-clause-some c =
     let old = state_of c.args.self.now in
-    let here : IsAtLine (state_of c.args.self.now) = search rules in
-    record { within = omega arith; passed = given_up old (record old { tokens = c.read_line-count.new.tokens.items }) (state_of c.leave_line.new.self) here refl refl c.leave_line.ensures }
-
-pub returns-then-is_err : goal.returns-then-is_err
-returns-then-is_err c =
-    let old = state_of c.args.self.now in
-    let here : IsAtLine (state_of c.args.self.now) = search rules in
-    let same : state_of c.end_entry.new.self ≡ record (state_of c.args.self.now) {
-      tokens = c.read_line-count.new.tokens.items;
-      position = record c.args.self.now.position { first = c.args.self.now.position.line; blank_start = c.begins_blank-self.result };
-    } = search rules in
-    record {
-      within = omega arith;
-      passed = given_up old (state_of c.end_entry.new.self) (state_of c.leave_line-then-is_err.new.self) here (ap (λ (s : LexState). s.ready) same) (ap (λ (s : LexState). s.raw) same) c.leave_line-then-is_err.ensures;
-    }
-
-pub returns : goal.returns
-returns c =
-    let some : 0 < c.read_line-count.result = omega arith in
-    let here : IsAtLine (state_of c.args.self.now) = search rules in
-    let ended : state_of c.end_entry.new.self ≡ entry_ended (record (state_of c.args.self.now) {
-      tokens = c.read_line-count.new.tokens.items;
-      position = record c.args.self.now.position { first = c.args.self.now.position.line; blank_start = c.begins_blank-self.result };
-    }) = search rules in
-    line_passed (state_of c.args.self.now) (state_of c.end_entry.new.self) c.read_line-count.new.tokens.items c.args.octets.now c.read_line-count.result here some (c.read_line-count.ensures.line some)
-    (rw (← c.begins_blank-self.ensures) ended)
+    let none : HoldsNothing (state_of c.args.self.now) = search rules in
+    let line = line_passed old c.read_line-count.new.tokens.items c.args.octets.now c.read_line-count.result none (omega arith) (c.read_line-count.ensures.line (omega arith)) in
+    let new = sym (same_state (record { ready = []; tokens = []; raw = []; position = start_of (c.args.self.now.position.line + 1) }) none.ready none.tokens none.raw c.start-self.ensures) in
+    let here : PlainLine = record { octets = c.read_line-count.result; line = c.args.self.now.position.line; blank_start = is_space (get_or c.args.octets.now 0 0) } in
+    rw c.begins_blank.ensures
+    (subst (λ (s : LexState). HasPassedLine old s c.read_line-count.new.tokens.items c.args.octets.now here) new line)

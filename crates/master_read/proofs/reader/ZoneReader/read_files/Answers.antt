@@ -76,7 +76,7 @@ loop-self-preserved c = record {
       let more = c.in_ok-leave.ensures.more origin texts (rw none at p) in
       let others : c.in_ok-leave.field-0 ≡ true = search rules in
       rw others at more;
-  same = (rw c.read_ready.ensures.lexer at c.leave.ensures.same)
+  same = c.leave.ensures.same
       ∙ ap (λ (held : Held). record held { file = c.leave.new.self.file; around = c.leave.new.self.around; records = c.leave.new.self.records })
       (c.self.view_is ∙ c.loop-self.invariant.same);
 }

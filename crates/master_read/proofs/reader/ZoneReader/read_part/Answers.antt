@@ -16,7 +16,7 @@ returns-clause-read c origin ended text reading =
     = c.in_ok-take_all.ensures.stands (text ++ c.args.octets.now) r.0 (c.in_ok-feed.ensures.stands text r.0 r.1.0) in (
       r.0 ++ all.0,
       (
-        rw c.read_ready.ensures.lexer all.2,
+        all.2,
         reads_on inside.limits inside.file inside.around.items origin inside.records c.read_ready.new.records c.take_all.new.entries.items c.read_ready.new.entries.items ended (r.0 ++ all.0)
             c.in_ok-read_ready.ensures.read
             (takes inside.limits inside.file inside.around.items origin inside.records inside.file.entries.items c.take_all.new.entries.items ended r.0 all.0 all.1 r.1.1),
