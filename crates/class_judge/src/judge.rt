@@ -15,13 +15,14 @@ ghost use Rattle.query_verdicts.specs.Subjects.{AreOfSubject};
 ghost use Rattle.verdict_book.specs.Lists.{IsWholeTree};
 
 use crate::naming::{Naming, OfNaming};
+use base_names::base_graph;
 use dns_data::{List, Name, NoMemory};
 use graph_form::Report;
 use label_graph::LabelGraph;
 use net_model::Config;
 use query_classes::TreeName;
 use query_verdicts::{
-    FiledVerdict, JudgeFault, Kept, KeptReport, NameJudge, QueryGraphs, SubjectGround, base_graph,
+    FiledVerdict, JudgeFault, Kept, KeptReport, NameJudge, QueryGraphs, SubjectGround,
 };
 use std::alloc::Global;
 use std::marker::Model;
@@ -108,7 +109,7 @@ impl<'a, N: Naming> Judge<'a, N> {
         ensures config { IfOk result (λ judge. judge ≡ config.now) }
     {
         let graphs = QueryGraphs::prepare(alloc, config, rewrites, states)?;
-        let base = base_graph(alloc, &graphs)?;
+        let base = base_graph(alloc, graphs.hosts())?;
         Ok(Judge::new(alloc, graphs, base, None, Name::root()))
     }
 

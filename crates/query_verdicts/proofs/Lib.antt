@@ -1,3 +1,4 @@
+pub mod AlikeVerdicts
 pub mod AllKinds
 pub mod BelowDecided
 pub mod Candidates
@@ -20,6 +21,8 @@ pub mod KnownAlike
 pub mod NameVerdicts
 pub mod OnePassed
 pub mod OneVerdict
+pub mod OpenGraphs
+pub mod OpenNodes
 pub mod OwnClasses
 pub mod PassingNames
 pub mod QuietBelow
@@ -34,4 +37,3 @@ pub mod StraightVerdicts
 pub mod TreeValues
 pub mod VerdictsExist
 pub mod WholeReport
-pub mod ZoneNames

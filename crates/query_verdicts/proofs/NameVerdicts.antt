@@ -10,7 +10,8 @@ use Rattle.query_classes.proofs.Decided.{Decided}
 use Rattle.query_verdicts.specs.TreeVerdicts.{IsVerdictAt, IsVerdictBelow}
 use Rattle.query_verdicts.specs.declared.verdict.NameVerdict.{NameVerdict}
 
--- ---- each name has a verdict, where something is told of each name, and it is decided whether a class has a representative
+-- ---- each name has a verdict, where something is told of each name, and it is decided whether a class has a
+-- representative
 
 module _ {C : Type 0} (ground : Ground) (IsTold : Labels → C → Type 0) (nothing : C) (told_exists : (query : Labels) → IsName query → (told : C) × IsTold query told)
     (decided : (above : Labels) → IsName above → Decided ((query : Labels) × IsRepresentative ground (Below above) query)) where

@@ -1,5 +1,5 @@
--- What is told of the names below a name, as far as no origin of a zone stands between or with each unnamed tail, is told of
--- the class below it and of the names at or below its children.
+-- What is told of the names below a name, as far as no origin of a zone stands between or with each unnamed tail, is told
+-- of the class below it and of the names at or below its children.
 use Rattle.std.proofs.Common.{◌≡◌, ◌<◌, ◌⊎◌, Bool, true, false, cond, [], ◌∷◌, ◌++◌, length, Option, Some, None, is_some, refl, sym, ap, ◌∙◌, subst, inl, inr, arith, length-append}
 use Rattle.dns_data.specs.Name.{Labels, is_prefix}
 use Rattle.dns_data.proofs.NameFronts.{Begins, begins_itself, is_prefix_tells, is_prefix_told, two_fronts}

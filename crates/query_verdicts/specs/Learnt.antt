@@ -13,6 +13,7 @@ use Rattle.net_model.specs.Step.{may_follow}
 use Rattle.net_model.specs.Tails.{IsUnnamedTail}
 use Rattle.straight_walks.specs.Regions.{AreRegionsFor}
 use Rattle.zone_lookup.specs.CutTable.{IsTableOf}
+use Rattle.query_verdicts.specs.AlikeBelow.{AreAlikeBelow}
 use Rattle.query_verdicts.specs.Passed.{IsFirstServerPassed}
 use Rattle.query_verdicts.specs.Queries.{AreSets, LimitedQueries, limited_to}
 use Rattle.query_verdicts.specs.Verdict.{PassesStates, SomeServerPasses}
@@ -30,12 +31,13 @@ abbrev pub FollowsAll : Config → List Labels → Type 0
 FollowsAll config followed = (cut : Cut) → is_configured config cut.ns ≡ true → may_follow config cut followed ≡ true
 
 -- the sets are those of the configuration, and the table and the regions are of both; where it is told that all servers are
--- followed, the least set follows them
+-- followed, the least set follows them; and what is told of all names below one holds
 pub record IsRightLearnt (config : Config) (rewrites states : ℕ) (learnt : Learnt) : Type 0 where
   pub sets : AreSets config rewrites states learnt.sets
   pub table : IsTableOf config learnt.sets learnt.table
   pub regions : AreRegionsFor config learnt.sets learnt.regions
   pub all_followed : learnt.all_followed ≡ true → FollowsAll config learnt.sets.least
+  pub alike : AreAlikeBelow config rewrites states learnt.alike
 
 -- whichever servers are followed, an address of the name can be learnt or can't, as is told, and the name reaches no more
 -- pairs than it may

@@ -5,6 +5,7 @@ pub use Rattle.query_classes.specs.Children
 pub use Rattle.query_classes.specs.TreeNames
 pub use Rattle.straight_walks.specs.Ends
 pub use Rattle.walk_laws.specs.Outcome
+pub mod AlikeBelow
 pub mod Carried
 pub mod Entries
 pub mod FiledVerdict

@@ -1,6 +1,6 @@
 -- The queries of a configuration within their limits, and what is known of the class of one: for the contracts of the calls
 -- on query graphs.
-use Rattle.std.specs.Prelude.{◌≡◌, ◌↔◌, ◌++◌, ℕ, true, List, Option}
+use Rattle.std.specs.Prelude.{◌≡◌, ◌↔◌, ◌++◌, ℕ, true, List, map, Option}
 use Rattle.dns_data.specs.Name.{Labels}
 use Rattle.dns_data.specs.declared.rr_type.RrType.{RrType}
 use Rattle.dns_data.specs.declared.rr_type.RrType.TheVariants as types
@@ -15,12 +15,14 @@ use Rattle.net_model.specs.declared.class.Class.{Class}
 use Rattle.net_model.specs.Class.{IsClassOf, IsRepresentative}
 use Rattle.net_model.specs.Learnt.{IsLeast, IsGreatest, IsInForce}
 use Rattle.net_model.specs.Reading.{Ground, ground_of}
+use Rattle.net_model.specs.Retail.{retail}
 use Rattle.net_model.specs.Step.{following}
 use Rattle.net_model.specs.Tails.{IsUnnamedTail}
-use Rattle.net_model.specs.Walk.{IsBoundedWith}
+use Rattle.net_model.specs.Walk.{AreWalks, IsBoundedWith}
 use Rattle.net_model.specs.declared.deps.Deps.{Deps}
 use Rattle.net_model.specs.declared.fault.Fault.{Fault}
 use Rattle.net_model.specs.declared.walk.Leaf.{Leaf}
+use Rattle.net_model.specs.declared.walk.Walk.{Walk}
 use Rattle.query_classes.specs.TreeNames.{AreBaseNamesOf}
 use Rattle.straight_walks.specs.Ends.{IsOutcomeOf}
 use Rattle.straight_walks.specs.Straight.{NoOriginBetween, told_of}
@@ -62,6 +64,16 @@ pub record AreSets (config : Config) (rewrites states : ℕ) (deps : Deps) : Typ
   pub none_passes : SomeServerPasses config rewrites states → ⊥
   pub least : IsLeast config rewrites deps.least
   pub greatest : IsGreatest config rewrites deps.greatest
+
+-- Neither the query nor the other name reaches more pairs of state and type than it may; and whichever servers are
+-- followed, the query has the walks of that name, item by item, with last labels of its own wherever they are carried.
+pub record WalksLike (queries : LimitedQueries) (like query : Labels) : Type 0 where
+  pub few : Passes queries query → ⊥
+  pub few_like : Passes queries like → ⊥
+  pub count : ℕ
+  pub tail : Labels
+  pub walks : (followed : List Labels) (rtype : RrType) (walks : List Walk) → AreWalks (following queries.config queries.rewrites followed) like rtype walks
+      → AreWalks (following queries.config queries.rewrites followed) query rtype (map (retail count tail) walks)
 
 -- the graph is that of the query's walks while the servers of the set in force are followed, and has no more than these
 pub record IsLeastGraph (config : Config) (rewrites : ℕ) (query : Labels) (graph : PlainGraph) : Type 0 where

@@ -253,7 +253,7 @@ fn copied(alloc: Global, class: &Class, seen: &Seen) -> Result<ClassFault, NoMem
 }
 
 /// An equal fault.
-fn fault_copy(alloc: Global, fault: &Fault) -> Result<Fault, NoMemory>
+pub(crate) fn fault_copy(alloc: Global, fault: &Fault) -> Result<Fault, NoMemory>
     ensures { IfOk result (λ copy. copy ≡ fault.now) }
 {
     match fault {

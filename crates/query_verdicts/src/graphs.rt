@@ -2,10 +2,11 @@
 
 ghost use Rattle.std.specs.Prelude.{◌≡◌, true, IfOk, IfErr, IfSome, OnOk, IsErrOf, MatchOption};
 ghost use Rattle.query_verdicts.specs.Passed.{IsFirstServerPassed};
-ghost use Rattle.query_verdicts.specs.Queries.{AreSets, AreStraightEnds, IsLeastGraph, IsOwnClass, limited_to};
+ghost use Rattle.query_verdicts.specs.Queries.{AreSets, AreStraightEnds, IsLeastGraph, IsOwnClass, WalksLike, limited_to};
 ghost use Rattle.query_verdicts.specs.Verdict.{IsClassVerdict, PassesStates, SomeServerPasses};
 ghost use Rattle.straight_walks.specs.Straight.{NoOriginBelow};
 
+use crate::alike::like_of;
 use crate::learnt::{Learnt, learnt_of};
 use crate::own_class::OwnClass;
 use crate::queries::{Queries, graph_of};
@@ -131,6 +132,17 @@ impl<'a> QueryGraphs<'a> {
         }
     }
 
+    /// A name as which the query walks, where one is known: their walks end alike, whichever servers are followed. It is
+    /// the same one for many queries, so that one graph of it may serve for all of them.
+    pub fn walks_as(&self, query: &Name) -> Option<&Name>
+        ensures { IfSome result (λ like. WalksLike self.now like.now query.now) }
+    {
+        match &self.learnt {
+            Ok(learnt) => like_of(learnt.alike.items(), query),
+            Err(_) => None,
+        }
+    }
+
     /// The verdict of a query, by a graph of its walks: the faults that it shows, or that it reaches more pairs of state
     /// and type than are looked at. Where the name of some server does, no fault is looked for.
     pub fn verdict(&self, own: &OwnClass<'_>, query: &Name) -> Result<ClassVerdict, NoMemory>
@@ -151,7 +163,7 @@ impl<'a> QueryGraphs<'a> {
     }
 
     /// The servers of the configuration with the trees of their zones.
-    pub(crate) fn hosts(&self) -> &Hosts<'a>
+    pub fn hosts(&self) -> &Hosts<'a>
         ensures { result.now ≡ self.now.config }
     {
         &self.queries.trees

@@ -7,11 +7,13 @@ ghost use Rattle.label_graph.specs.Pairs.{AreSame};
 ghost use Rattle.query_verdicts.specs.Learnt.{AreKnown, IsKnownOf};
 ghost use Rattle.query_verdicts.specs.declared.known_classes.KnownBelow.{KnownBelow as KnownBelowOf};
 
+use base_names::base_graph;
 use dns_data::{List, Name, NoMemory};
 use label_graph::LabelGraph;
-use net_model::{Class, Config};
+use net_model::Class;
 use query_classes::class_of;
 use std::alloc::Global;
+use zone_lookup::Hosts;
 
 /// Whether an address can be learnt of each name with this many octets in the class below a name, whichever servers are
 /// followed.
@@ -59,14 +61,14 @@ impl KnownClasses {
     pub(crate) fn note(
         &mut self,
         alloc: Global,
-        config: &Config,
+        hosts: &Hosts<'_>,
         name: &Name,
         learnt: bool,
     ) -> Result<(), NoMemory>
-        ensures { OnOk result ((rewrites states : ℕ) → AreKnown config.now rewrites states self.old → IsKnownOf config.now rewrites states name.now learnt
-            → AreKnown config.now rewrites states self.new) }
+        ensures { OnOk result ((rewrites states : ℕ) → AreKnown hosts.now rewrites states self.old → IsKnownOf hosts.now rewrites states name.now learnt
+            → AreKnown hosts.now rewrites states self.new) }
     {
-        self.list_names(alloc, config)?;
+        self.list_names(alloc, hosts)?;
         let Some(names) = &self.names else {
             return Ok(());
         };
@@ -81,12 +83,12 @@ impl KnownClasses {
     }
 
     /// Makes the graph of the configuration's base names, if it isn't made yet.
-    fn list_names(&mut self, alloc: Global, config: &Config) -> Result<(), NoMemory>
+    fn list_names(&mut self, alloc: Global, hosts: &Hosts<'_>) -> Result<(), NoMemory>
         ensures known { OnOk result (self.new.known ≡ self.old.known) }
-        ensures names { OnOk result (IfSome self.old.names (λ names. AreSame names (ground_of config.now)) → IfSome self.new.names (λ names. AreSame names (ground_of config.now))) }
+        ensures names { OnOk result (IfSome self.old.names (λ names. AreSame names (ground_of hosts.now)) → IfSome self.new.names (λ names. AreSame names (ground_of hosts.now))) }
     {
         if self.names.is_none() {
-            self.names = Some(LabelGraph::of_config(alloc, config)?);
+            self.names = Some(base_graph(alloc, hosts)?);
         }
         Ok(())
     }

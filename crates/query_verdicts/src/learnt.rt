@@ -9,10 +9,12 @@ ghost use Rattle.query_verdicts.specs.Queries.{AreSets};
 ghost use Rattle.query_verdicts.specs.Verdict.{SomeServerPasses};
 ghost use Rattle.dns_data.specs.Name.{name_cmp, is_among};
 
+use crate::alike::AlikeBelow;
+use crate::alike_rows::alike_rows;
 use crate::queries::Queries;
 use crate::servers::servers_told;
 use address_deps::{AddressTold, dependencies_among};
-use dns_data::{Name, NoMemory};
+use dns_data::{List, Name, NoMemory};
 use net_model::{Config, Server};
 use std::alloc::Global;
 use std::collections::BTreeSet;
@@ -20,13 +22,15 @@ use straight_walks::Regions;
 use zone_lookup::{CutTable, LearntSets, set_of};
 
 /// The two sets of learnt addresses, the table of what the referrals of all zone cuts show, the regions of names by which
-/// queries are seen to go straight, and whether each configured server is seen to be a top server or in the least set.
+/// queries are seen to go straight, whether each configured server is seen to be a top server or in the least set, and what
+/// is seen of all names below one.
 #[derive(Drop)]
 pub(crate) struct Learnt<'a> {
     pub sets: LearntSets,
     pub table: CutTable<'a>,
     pub regions: Regions<'a>,
     pub all_followed: bool,
+    pub alike: List<AlikeBelow>,
 }
 
 /// What is learnt of the configuration, or the name of the first server that reaches too many pairs of state and type.
@@ -36,13 +40,24 @@ pub(crate) fn learnt_of<'a>(queries: &Queries<'a>) -> Result<Result<Learnt<'a>, 
     match servers_told(queries)? {
         Ok(told) => {
             let learnt = learnt_from(queries, told.items())?;
+            let learnt = with_alike(queries, learnt)?;
             Ok(Ok(learnt))
         }
         Err(server) => Ok(Err(server)),
     }
 }
 
-/// What is learnt from what is told of the servers' names.
+/// What is learnt, with what is seen of all names below one.
+fn with_alike<'a>(queries: &Queries<'a>, mut learnt: Learnt<'a>) -> Result<Learnt<'a>, NoMemory>
+    requires { IsRightLearnt queries.now.trees queries.now.rewrites queries.now.states learnt }
+    ensures { IfOk result (IsRightLearnt queries.now.trees queries.now.rewrites queries.now.states) }
+{
+    let alike = alike_rows(queries, &learnt)?;
+    learnt.alike = alike;
+    Ok(learnt)
+}
+
+/// What is learnt from what is told of the servers' names, before names below one are looked at.
 fn learnt_from<'a>(queries: &Queries<'a>, told: &[AddressTold<'_>]) -> Result<Learnt<'a>, NoMemory>
     requires told { AreTold queries.now.trees queries.now.rewrites told.now }
     requires few { SomeServerPasses queries.now.trees queries.now.rewrites queries.now.states → ⊥ }
@@ -57,6 +72,7 @@ fn learnt_from<'a>(queries: &Queries<'a>, told: &[AddressTold<'_>]) -> Result<Le
         table,
         regions,
         all_followed,
+        alike: List::new(queries.alloc),
     })
 }
 
@@ -74,8 +90,8 @@ fn sets_from(queries: &Queries<'_>, told: &[AddressTold<'_>]) -> Result<LearntSe
 fn follows_all(alloc: Global, config: &Config, sets: &LearntSets) -> Result<bool, NoMemory>
     ensures { IfOk result (λ all. all ≡ true → FollowsAll config.now sets.now.least) }
 {
-    let tops = set_of(alloc, config.tops.items())?;
-    Ok(are_followed(config.servers.items(), &tops, sets))
+    let tops = set_of(alloc, config.tops())?;
+    Ok(are_followed(config.servers(), &tops, sets))
 }
 
 /// Whether each server is one of the top servers or in the least set.

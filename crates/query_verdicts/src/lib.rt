@@ -8,11 +8,6 @@
 //! queries. A subject is a configuration with its limits, the names that are told apart in it, and the name at or below
 //! which queries are looked at.
 //!
-//! `base_graph` and `joint_base_graph` make graphs of base names, and answer `NoMemory` where there is no room. The names
-//! of a zone come from its tree, where they stand in order: putting them in order costs a comparison a name for one zone,
-//! and a merge of their runs for several. They come from the records where two servers have one name, two zones of a
-//! server one origin, or an owner lies outside its zone.
-//!
 //! The way of a fault, from the graph of a query's walks to its entry, goes through five files: `verdicts` finds the faults
 //! in the graph, `verdict` has what is told of a class and of a name and how that is filed, `name_judge` judges the two
 //! classes of a name, `first_classes` keeps of each fault the first class that shows it, and `report` makes the entry.
@@ -32,9 +27,13 @@
 //! made and the subject tells other names apart. The report takes room for each fault, and not for each class that
 //! shows it. It makes one graph more for each class that is the first to show some fault, and finds the first walks of
 //! all these faults in it.
+//! Where the zones have many more names than redirected ones, `prepare` makes one graph more for each redirected name: that
+//! of a name right below it. Where the servers to which its walks come know nothing of names with its last label, all
+//! names below the redirected one, as long as they aren't too long, show what it shows, and no graph of them is made.
 #![tactic(auto)]
 
-mod base_names;
+mod alike;
+mod alike_rows;
 mod equal;
 mod first_classes;
 mod graphs;
@@ -43,6 +42,7 @@ mod known_classes;
 pub mod laws;
 mod learnt;
 mod name_judge;
+mod open_graph;
 mod own_class;
 mod passed;
 mod queries;
@@ -52,7 +52,6 @@ mod subject;
 mod verdict;
 mod verdicts;
 
-pub use base_names::{base_graph, joint_base_graph};
 pub use graphs::QueryGraphs;
 pub use kept::{Kept, KeptReport};
 pub use name_judge::NameJudge;

@@ -193,7 +193,8 @@ fn kept_by_class<S: OnSubject, K: Kept + Drop>(
     Ok(kept)
 }
 
-/// Puts what is kept of the entry of a fault with its class at the end, and gives the walks of that class, for the next one.
+/// Puts what is kept of the entry of a fault with its class at the end, and gives the walks of that class, for the next
+/// one.
 fn put_kept<S: OnSubject, K: Kept + Drop>(
     judge: &NameJudge<'_, S>,
     last: Option<Walked>,

@@ -27,7 +27,7 @@ pub(crate) fn servers_told<'a>(
     let tops = TopServers::unlike(queries.alloc, &queries.trees)?;
     let mut classes = KnownClasses::new(queries.alloc);
     let mut told = List::new(queries.alloc);
-    for server in config.servers.items() {
+    for server in config.servers() {
         // The labels are read, so that the length of the name is known here.
         let _ = server.name.labels();
         match told_of(queries, &tops, &mut classes, &server.name) {
@@ -97,18 +97,13 @@ fn note_known(
     ensures { OnOk result (AreKnown queries.now.trees queries.now.rewrites queries.now.states classes.new) }
 {
     match told {
-        AddressTold::Known(learnt) => classes.note(
-            queries.alloc,
-            queries.trees.config(),
-            name,
-            *learnt,
-        ),
+        AddressTold::Known(learnt) => classes.note(queries.alloc, &queries.trees, name, *learnt),
         AddressTold::ByPaths(_) => Ok(()),
     }
 }
 
-/// Whether an address of a name can be learnt; or `None` where it isn't seen at once that the name rests, or where it reaches
-/// more pairs of state and type than it may, which are the twelve types at each top server.
+/// Whether an address of a name can be learnt; or `None` where it isn't seen at once that the name rests, or where it
+/// reaches more pairs of state and type than it may, which are the twelve types at each top server.
 fn learnt_within(
     queries: &Queries<'_>,
     tops: &TopServers<'_>,
@@ -118,7 +113,7 @@ fn learnt_within(
     ensures rests { IfOk result (λ told. IfSome told (Rests queries.now.trees name.now)) }
     ensures few { IfOk result (λ told. IfSome told (λ learnt. PassesStates queries.now.trees queries.now.rewrites queries.now.states name.now → ⊥)) }
 {
-    let count = queries.trees.config().tops.items().len();
+    let count = queries.trees.config().tops().len();
     if count > queries.states as usize / RrType::COUNT {
         return Ok(None);
     }

@@ -16,6 +16,7 @@ ghost use Rattle.net_model.specs.Step.{following};
 ghost use Rattle.rewrite_checks.specs.Rewrites.{IsGraphFor};
 ghost use Rattle.zone_lookup.specs.CutTable.{IsTableOf};
 
+use crate::alike::told_alike;
 use crate::learnt::Learnt;
 use crate::own_class::{OwnClass, represents};
 use crate::queries::{Queries, graph_of};
@@ -29,8 +30,26 @@ use query_classes::class_of;
 use rewrite_checks::rewrite_faults;
 use std::alloc::Global;
 
-/// The verdict of a query by a graph of its walks, with what is learnt of its configuration.
+/// The verdict of a query, with what is learnt of its configuration: what is told of all names below one, or else by a
+/// graph of its walks.
 pub(crate) fn verdict_with(
+    queries: &Queries<'_>,
+    learnt: &Learnt<'_>,
+    own: &OwnClass<'_>,
+    query: &Name,
+) -> Result<ClassVerdict, NoMemory>
+    requires learnt { IsRightLearnt queries.now.trees queries.now.rewrites queries.now.states learnt.now }
+    requires own { IsOwnClass queries.now.trees own.now query.now }
+    ensures { IfOk result (IsClassVerdict queries.now.trees queries.now.rewrites queries.now.states query.now) }
+{
+    match told_alike(queries.alloc, learnt.alike.items(), query)? {
+        Some(verdict) => Ok(verdict),
+        None => verdict_by_graph(queries, learnt, own, query),
+    }
+}
+
+/// The verdict of a query by a graph of its walks, with what is learnt of its configuration.
+fn verdict_by_graph(
     queries: &Queries<'_>,
     learnt: &Learnt<'_>,
     own: &OwnClass<'_>,
@@ -65,7 +84,7 @@ pub(crate) fn verdict_alone(queries: &Queries<'_>, query: &Name) -> Result<Class
 
 /// The faults that a query shows, in fault order, each with its first type. The graph is that of its walks while every
 /// configured server is followed.
-fn faults_of(
+pub(crate) fn faults_of(
     queries: &Queries<'_>,
     learnt: &Learnt<'_>,
     own: &OwnClass<'_>,

@@ -1,12 +1,15 @@
 //! The comparison of two configurations: a work whose items are the names of their joint class tree.
 
-ghost use Rattle.std.specs.Prelude.{◌≡◌, [], IfOk, IfSome};
+ghost use Rattle.std.specs.Prelude.{◌≡◌, ◌∷◌, [], IfOk, IfSome};
 ghost use Rattle.query_classes.specs.Children.{IsInTree};
 ghost use Rattle.query_classes.specs.TreeNames.{IsLiveIn};
 ghost use Rattle.query_verdicts.specs.Passed.{SomeNamePasses};
 ghost use Rattle.query_verdicts.specs.Queries.{ServerPasses};
 ghost use Rattle.query_verdicts.specs.Subjects.{RepresentsBelow};
+ghost use Rattle.dns_data.specs.Name.{AreInOrder};
 ghost use Rattle.dns_data.proofs.Names.{same_names};
+ghost use Rattle.label_graph.specs.Pairs.{AreSame};
+ghost use Rattle.net_model.specs.Reading.{joined_ground};
 ghost use Rattle.same_answers.specs.Compared.{joint};
 ghost use Rattle.same_answers.specs.Values.{ArePairValues};
 ghost use Rattle.same_answers.specs.Verdict.{IsBelowEnd, IsPairEnd, IsPairVerdict, SomeServerPassesInOne};
@@ -16,11 +19,12 @@ use crate::looked::{looked_at, looked_end};
 use crate::naming::{JointGround, PairNaming};
 use crate::straight::straight_end;
 use crate::verdict::PairEnd;
+use base_names::joint_base_graph;
 use dns_data::{List, Name, NoMemory};
 use label_graph::LabelGraph;
 use net_model::Config;
 use query_classes::{LiveName, TreeName};
-use query_verdicts::{NameVerdict, QueryGraphs, joint_base_graph};
+use query_verdicts::{NameVerdict, QueryGraphs};
 use std::alloc::Global;
 use std::marker::{Model, PhantomData};
 use verdict_book::{JudgeShare, Judged, Work};
@@ -106,7 +110,7 @@ impl<'a, N: PairNaming> Pairing<'a, N> {
     {
         let of_first = QueryGraphs::prepare(alloc, first, rewrites, states)?;
         let of_second = QueryGraphs::prepare(alloc, second, rewrites, states)?;
-        let names = joint_base_graph(alloc, &[&of_first, &of_second], &[])?;
+        let names = joint_names(alloc, &of_first, &of_second)?;
         Ok(Pairing {
             alloc,
             first: of_first,
@@ -211,8 +215,6 @@ impl<'a, N: PairNaming> Pairing<'a, N> {
 }
 
 impl<'a, N: PairNaming> Pairing<'a, N> {
-    ghost use Rattle.label_graph.specs.Pairs.{AreSame};
-
     /// The graph of the base names of both configurations.
     pub fn base_names(&self) -> &LabelGraph
         ensures { AreSame result.now (joint N.compared) }
@@ -235,4 +237,19 @@ fn servers_have_names(graphs: &QueryGraphs<'_>)
 {
     // The sets are asked for, so that it is known here that a server that passes is a configured one.
     let _ = graphs.sets();
+}
+
+/// The graph of the base names of both configurations.
+fn joint_names<'q, 'a>(
+    alloc: Global,
+    first: &'q QueryGraphs<'a>,
+    second: &'q QueryGraphs<'a>,
+) -> Result<LabelGraph, NoMemory>
+    ensures same { IfOk result (λ graph. AreSame graph (joined_ground (first.now.config ∷ second.now.config ∷ []) [])) }
+    ensures order { IfOk result (λ graph. AreInOrder graph.names) }
+{
+    let mut both = Vec::with_capacity(alloc, 2)?;
+    both.push(first.hosts())?;
+    both.push(second.hosts())?;
+    joint_base_graph(alloc, both.as_slice(), &[])
 }

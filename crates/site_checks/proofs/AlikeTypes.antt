@@ -1,4 +1,5 @@
--- Types that go the same way at each node have the same ends; and each type's ends are found once, whatever those of others are.
+-- Types that go the same way at each node have the same ends; and each type's ends are found once, whatever those of others
+-- are.
 use Rattle.std.proofs.Common.{◌≡◌, ℕ, zero, suc, ◌+◌, ◌<◌, ◌≤◌, Bool, true, false, not, cond, List, [], ◌∷◌, ◌++◌, append-nil, append_assoc, length, take, get_or, map, Contains, Option, Some, None, refl, sym, ap, ◌∙◌, subst, true≢false}
 use Rattle.std.specs.Prelude.{◌&&◌, ◌||◌, slice_get}
 use Rattle.std.specs.List.{AllByRecursion, find, flat_map, fold, list_any}

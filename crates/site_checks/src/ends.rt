@@ -48,8 +48,8 @@ fn ends_of(alloc: Global, graph: &Graph) -> Result<List<TypedEnd>, NoMemory>
     Ok(ends)
 }
 
-/// Puts the ends of all paths with the type behind the others, each once and where it comes first. They are those of another
-/// type where it is known that this goes the same way; else they are known from now on.
+/// Puts the ends of all paths with the type behind the others, each once and where it comes first. They are those of
+/// another type where it is known that this goes the same way; else they are known from now on.
 fn put_type(
     alloc: Global,
     graph: &Graph,

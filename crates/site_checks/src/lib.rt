@@ -4,9 +4,9 @@
 //! holds, and what it holds once it was shown one more view (`SiteCheck`); and it does what it means. `tell` asks boxed
 //! checks for their names and their findings.
 //!
-//! Costs: `view` passes over each node of the graph once for all types that go the same way at each node, and keeps a mark a
-//! node; it compares each end with those that were found at its server. With the other types the ends are copied. `AOnly` goes over a view's ends twice at most. `Answering`
-//! compares the line of each answering end with those that it holds.
+//! Costs: `view` passes over each node of the graph once for all types that go the same way at each node, and keeps a mark
+//! a node; it compares each end with those that were found at its server. With the other types the ends are copied. `AOnly`
+//! goes over a view's ends twice at most. `Answering` compares the line of each answering end with those that it holds.
 #![tactic(auto)]
 
 mod a_only;

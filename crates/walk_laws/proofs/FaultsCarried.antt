@@ -1,5 +1,5 @@
 -- Each fault that a member of a class shows, the class's representative shows.
-use Rattle.std.proofs.Common.{◌≡◌, ◌≢◌, ℕ, ◌<◌, ◌≤◌, Bool, true, false, cond, List, [], ◌∷◌, ◌++◌, map, length, Contains, sym, refl, ap, ◌∙◌, subst, inl, inr, arith, append_assoc, append-nil, length-append}
+use Rattle.std.proofs.Common.{◌≡◌, ◌≢◌, ℕ, ◌<◌, ◌≤◌, Bool, true, false, cond, List, [], ◌∷◌, ◌++◌, map, length, Contains, sym, refl, ap, ◌∙◌, subst, inl, inr, arith, append_assoc, append-nil, length-append, true≢false}
 use Rattle.std.specs.List.{AllByRecursion}
 use Rattle.std.proofs.lemmas.Bool.{cases_lt}
 use Rattle.std.proofs.lemmas.List.{map-append}
@@ -26,12 +26,12 @@ use Rattle.net_model.specs.Reading.{Ground, IsNamed, Covers, ground_of}
 use Rattle.net_model.specs.Retail.{retailed_name, retailed_state, retailed_hop, retailed_hops, retail}
 use Rattle.net_model.specs.Shown.{FaultSetting, with_sets, Refers, EndsBehind, LastRewriteAt, is_authoritative, MayShow, Represents, WalksShow, ShowsIn}
 use Rattle.net_model.specs.Step.{following}
-use Rattle.net_model.specs.Tails.{AreTails, is_overlong}
+use Rattle.net_model.specs.Tails.{WalksAs, is_overlong}
 use Rattle.net_model.specs.Walk.{IsWalk}
 use Rattle.walk_laws.proofs.JoinedGround.{own_covers}
 use Rattle.walk_laws.proofs.Represents.{represents_everywhere}
 use Rattle.walk_laws.proofs.WalksAlike.ClassTails.{named_everywhere, tails_in_class}
-use Rattle.walk_laws.proofs.WalksAlike.QueryWalks.{walks_kept, front_kept}
+use Rattle.walk_laws.proofs.WalksAlike.QueryWalks.{walks_as}
 use Rattle.net_model.proofs.TrialOrder.{one_representative}
 
 -- ---- what a walk with the tail replaced shows
@@ -91,7 +91,7 @@ told_not_overlong _ is = cc
 
 -- ---- what walks of the query show, walks of the other name show
 
-module _ (setting : FaultSetting) (above own other : Labels) (tails : AreTails setting.walks.config above own other) (rtype : RrType) where
+module _ (setting : FaultSetting) (above own other : Labels) (rtype : RrType) (alike : WalksAs setting.walks rtype above own other) where
   abbrev changed : Walk → Walk
   changed = retail (length own) other
 
@@ -100,20 +100,26 @@ module _ (setting : FaultSetting) (above own other : Labels) (tails : AreTails s
   OthersShow fault = (walks : List Walk) × AllByRecursion (IsWalk setting.walks (above ++ other) rtype) walks × WalksShow setting walks fault
 
   kept : (walk : Walk) → IsWalk setting.walks (above ++ own) rtype walk → is_overlong walk.leaf ≡ false → IsWalk setting.walks (above ++ other) rtype (changed walk)
-  kept walk (numbers, e) good = (numbers, walks_kept setting.walks above own other tails rtype numbers walk e good)
+  kept walk (numbers, e) good = (numbers, alike.walks numbers walk e good)
 
   -- with the walk a referral on it is on a walk of the other name
   refers_kept : (walk : Walk) (cut : Cut) → IsWalk setting.walks (above ++ own) rtype walk → Refers walk cut
       → (whole : Walk) × IsWalk setting.walks (above ++ other) rtype whole × Refers whole cut
-  refers_kept walk cut is refers =
-      let front = front_kept setting.walks above own other tails rtype walk is in (
-        front.0,
-        front.1,
-        subst (λ (hops : List Hop). Contains hops (Refer cut)) (sym front.2.hops_are)
-            (Contains-append_left (changed walk).hops front.2.hops (Refer cut) (refer_stays (length own) other cut walk.states walk.hops refers)),
-      )
+  refers_kept walk cut is refers = by (is_overlong walk.leaf) refl where
+    has : Contains (changed walk).hops (Refer cut)
+    has = refer_stays (length own) other cut walk.states walk.hops refers
 
-  shown : (walks : List Walk) (fault : Fault) → ((place : Place) → fault ≢ faults.Overlong place)
+    by : (long : Bool) → is_overlong walk.leaf ≡ long → (whole : Walk) × IsWalk setting.walks (above ++ other) rtype whole × Refers whole cut
+    by false good = (changed walk, kept walk is good, has)
+    by true long =
+        let front = alike.overlong walk is long in (
+          front.0,
+          front.1,
+          subst (λ (hops : List Hop). Contains hops (Refer cut)) (sym front.2.hops_are) (Contains-append_left (changed walk).hops front.2.hops (Refer cut) has),
+        )
+
+  -- the walks show what they showed but for an overlong rewrite
+  pub shown : (walks : List Walk) (fault : Fault) → ((place : Place) → fault ≢ faults.Overlong place)
       → AllByRecursion (IsWalk setting.walks (above ++ own) rtype) walks → WalksShow setting walks fault → OthersShow fault
   shown (walk ∷ []) (faults.Lame cut) never are show = (
     changed walk ∷ [],
@@ -150,6 +156,33 @@ module _ (setting : FaultSetting) (above own other : Labels) (tails : AreTails s
   )
   shown (walk ∷ []) (faults.Overlong place) never are show = absurd (never place refl)
   shown _ _ never are show = absurd show
+
+-- a fault that isn't told of a class or of its representative alone
+abbrev pub is_of_walks : Fault → Bool
+is_of_walks (faults.Answers class shown_with) = false
+is_of_walks (faults.Overlong place) = false
+is_of_walks fault = true
+
+-- what a query shows the name with another tail does, where that walks as the query does
+pub shown_alike : (config : Config) (rewrites : ℕ) (above own other : Labels) (rtype : RrType)
+    → ((followed : List Labels) → WalksAs (following config rewrites followed) rtype above own other) → (fault : Fault) → is_of_walks fault ≡ true
+    → ShowsIn config rewrites (above ++ own) rtype fault → ShowsIn config rewrites (above ++ other) rtype fault
+shown_alike config rewrites above own other rtype alike fault of_walks shows =
+    let setting : FaultSetting = with_sets (following config rewrites shows.followed) in
+    let found = shown setting above own other rtype (alike shows.followed) shows.shows.walks fault (no_overlong fault of_walks) shows.shows.are_walks shows.shows.show in
+    record {
+      followed = shows.followed;
+      in_force = shows.in_force;
+      shows = record { walks = found.0; by = record { may = may fault of_walks; are_walks = found.1; show = found.2 } };
+    }
+  where
+    no_overlong : (fault : Fault) → is_of_walks fault ≡ true → (place : Place) → fault ≢ faults.Overlong place
+    no_overlong fault is place same = true≢false (sym is ∙ ap is_of_walks same)
+
+    may : (fault : Fault) → is_of_walks fault ≡ true → MayShow config (above ++ other) rtype fault
+    may (faults.Answers class shown_with) is = absurd (true≢false (sym is))
+    may (faults.Overlong place) is = absurd (true≢false (sym is))
+    may _ is = tt
 
 -- ---- so does the representative
 
@@ -221,7 +254,7 @@ module _ (config : Config) (rewrites : ℕ) (ground : Ground) (told : (name : La
       let ends = tails_in_class config ground told above query representative is of_class stands in
       let setting : FaultSetting = with_sets (following config rewrites shows.followed) in
       let found =
-      shown setting above ends.0 ends.1 ends.4 rtype shows.shows.walks fault never
+      shown setting above ends.0 ends.1 rtype (walks_as setting.walks above ends.0 ends.1 ends.4 rtype) shows.shows.walks fault never
       (subst (λ (q : Labels). AllByRecursion (IsWalk setting.walks q rtype) shows.shows.walks) ends.2 shows.shows.are_walks) shows.shows.show in
       record {
         followed = shows.followed;
@@ -239,7 +272,7 @@ module _ (config : Config) (rewrites : ℕ) (ground : Ground) (told : (name : La
 -- each fault that a query shows, the representative of its class shows, under every ground that covers the configuration. A
 -- named name is alone in its class. Of a class below a name, a member and the representative have unnamed tails
 -- (ClassTails.tails_in_class), so each walk of the member that doesn't end overlong is, with the tail replaced, one of the
--- representative (QueryWalks.walks_kept), and a front of one where a referral on it is all that counts (front_kept). With
+-- representative (QueryWalks.walks_as), and a front of one where a referral on it is all that counts. With
 -- the tail replaced the walks show what they showed: the cuts, the places and the ends that no name enters stay
 -- (refers_kept, rewrite_stays, shown). Answers are shown of one class, and both are in the same (class_kept). An overlong
 -- fault is told of representatives under the configuration's own ground alone, and such a query represents its class under

@@ -3,4 +3,6 @@ pub mod AlikeSteps
 pub mod AlikeWalks
 pub mod ClassTails
 pub mod QueryWalks
+pub mod OpenBack
+pub mod OpenWalks
 pub mod UnnamedTails

@@ -28,7 +28,7 @@ use Rattle.net_model.specs.Retail.{retailed_name, retailed_state, retailed_hop}
 use Rattle.net_model.specs.Step.{Setting, Branch, Go, End, may_follow, arrived, delegated, referred, servers_after, rewritten, after_lookup, in_zone, next}
 use Rattle.net_model.specs.Tails.{IsUnnamedTail}
 use Rattle.net_model.specs.Zone.{targets_at, data_at, data_cmp, ns_names}
-use Rattle.net_model.specs.OpenTail.{open_deciding}
+use Rattle.net_model.specs.OpenTail.{IsOpenTail, open_deciding}
 use Rattle.net_model.proofs.Branches.{LooksUp, each_branch}
 use Rattle.net_model.proofs.WalkEnds.{LeadsSo, item}
 use Rattle.net_model.proofs.NearestZones.{nearest_tells}
@@ -65,10 +65,28 @@ abbrev given : Labels → Option Labels → List Rdata → Found
 given owner (Some target) rdata = found_as.Rewrite false owner target
 given owner None rdata = answer_of rdata
 
-module _ (setting : Setting) (above own other : Labels)
-    (of_own : IsUnnamedTail setting.config above own) (of_other : IsUnnamedTail setting.config above other)
-    (shorter : tail_octets other ≤ tail_octets own)
-    (server : Labels) (cut used : ℕ) (last : Option Place) (origin : Option Labels) where
+-- Each server looks the name with either tail up in the zone of the name above, and in that of this server both tails are
+-- open.
+pub record AreOpen (config : Config) (server above own other : Labels) : Type 0 where
+  pub near_own : (ns : Labels) → nearest_of config ns (above ++ own) ≡ nearest_of config ns above
+  pub near_other : (ns : Labels) → nearest_of config ns (above ++ other) ≡ nearest_of config ns above
+  pub open_own : (zone : Zone) → nearest_of config server above ≡ Some zone → IsOpenTail zone above own
+  pub open_other : (zone : Zone) → nearest_of config server above ≡ Some zone → IsOpenTail zone above other
+
+-- each server looks the name with either tail up in one zone
+abbrev pub AreNear : Config → Labels → Labels → Labels → Type 0
+AreNear config above own other = (ns : Labels) → nearest_of config ns (above ++ other) ≡ nearest_of config ns (above ++ own)
+
+-- so it is for what the deciding redirection of the server's zone makes of the name, where a rewrite is left and it isn't too
+-- long; and then it isn't with the other tail
+abbrev pub StaysNear : Setting → Labels → ℕ → Labels → Labels → Labels → Type 0
+StaysNear setting server used above own other =
+    (zone : Zone) → nearest_of setting.config server above ≡ Some zone → (owner target below : Labels) → open_deciding zone above ≡ ByRedirection owner (Some target)
+    → above ≡ owner ++ below → nat_lt used setting.rewrites ≡ true → nat_le (wire_octets ((target ++ below) ++ own)) 255 ≡ true
+    → AreNear setting.config (target ++ below) own other × (nat_le (wire_octets ((target ++ below) ++ other)) 255 ≡ true)
+
+module _ (setting : Setting) (above own other server : Labels) (both : AreOpen setting.config server above own other)
+    (cut used : ℕ) (last : Option Place) (origin : Option Labels) where
   -- a state that carries the query's last labels, at this name
   abbrev at : Labels → State
   at name = record { server = server; name = name; carried = true; cut = cut; used = used; last = last; zone = origin }
@@ -76,9 +94,8 @@ module _ (setting : Setting) (above own other : Labels)
   abbrev changed : Branch → Branch
   changed = retailed_branch (length own) other true
 
-  same_nearest : (ns : Labels) → nearest_of setting.config ns (above ++ other) ≡ nearest_of setting.config ns (above ++ own)
-  same_nearest ns =
-      nearest_with_tail setting.config above other of_other ns ∙ sym (nearest_with_tail setting.config above own of_own ns)
+  same_nearest : AreNear setting.config above own other
+  same_nearest ns = both.near_other ns ∙ sym (both.near_own ns)
 
   -- ---- referrals
 
@@ -142,12 +159,10 @@ module _ (setting : Setting) (above own other : Labels)
 
   -- ---- rewrites by a DNAME record
 
-  module _ (place : Place) (to_above : Labels) (to_own : IsUnnamedTail setting.config to_above own) (to_other : IsUnnamedTail setting.config to_above other) where
-    same_target : (ns : Labels) → nearest_of setting.config ns (to_above ++ other) ≡ nearest_of setting.config ns (to_above ++ own)
-    same_target ns = nearest_with_tail setting.config to_above other to_other ns ∙ sym (nearest_with_tail setting.config to_above own to_own ns)
-
-    same_servers : (name : Labels) → servers_after setting.config (at name) (to_above ++ other) ≡ servers_after setting.config (at name) (to_above ++ own)
-    same_servers name = ap (λ (zone : Option Zone). if is_some zone then server ∷ [] else setting.config.tops) (same_target server)
+  module _ (place : Place) (to_above : Labels) where
+    same_servers : AreNear setting.config to_above own other → (name : Labels)
+        → servers_after setting.config (at name) (to_above ++ other) ≡ servers_after setting.config (at name) (to_above ++ own)
+    same_servers same_target name = ap (λ (zone : Option Zone). if is_some zone then server ∷ [] else setting.config.tops) (same_target server)
 
     -- the branch at a server after the rewrite to a name, with the zone in which it is looked up
     abbrev branch_to : Labels → Labels → Option Zone → Branch
@@ -163,22 +178,23 @@ module _ (setting : Setting) (above own other : Labels)
           zone = option_map (λ z. z.origin) zone;
         })
 
-    branch_alike : (to_server : Labels)
+    branch_alike : AreNear setting.config to_above own other → (to_server : Labels)
         → branch_to to_server (to_above ++ other) (nearest_of setting.config to_server (to_above ++ other))
         ≡ changed (branch_to to_server (to_above ++ own) (nearest_of setting.config to_server (to_above ++ own)))
-    branch_alike to_server =
+    branch_alike same_target to_server =
         ap (branch_to to_server (to_above ++ other)) (same_target to_server)
         ∙ ap (λ (name : Labels). branch_to to_server name (nearest_of setting.config to_server (to_above ++ own)))
         (sym (retailed_tail to_above own other))
 
-    rewritten_alike : rewritten setting.config (at (above ++ other)) place true (to_above ++ other)
+    rewritten_alike : AreNear setting.config to_above own other
+        → rewritten setting.config (at (above ++ other)) place true (to_above ++ other)
         ≡ map changed (rewritten setting.config (at (above ++ own)) place true (to_above ++ own))
-    rewritten_alike =
+    rewritten_alike same_target =
         map_same (λ (s : Labels). branch_to s (to_above ++ other) (nearest_of setting.config s (to_above ++ other)))
         (λ (s : Labels). changed (branch_to s (to_above ++ own) (nearest_of setting.config s (to_above ++ own))))
-        (servers_after setting.config (at (above ++ other)) (to_above ++ other)) branch_alike
+        (servers_after setting.config (at (above ++ other)) (to_above ++ other)) (branch_alike same_target)
         ∙ ap (map (λ (s : Labels). changed (branch_to s (to_above ++ own) (nearest_of setting.config s (to_above ++ own)))))
-        (same_servers (above ++ other))
+        (same_servers same_target (above ++ other))
         ∙ sym (map-map changed (λ (s : Labels). branch_to s (to_above ++ own) (nearest_of setting.config s (to_above ++ own)))
         (servers_after setting.config (at (above ++ own)) (to_above ++ own)))
 
@@ -188,42 +204,38 @@ module _ (setting : Setting) (above own other : Labels)
         if fits then (if left then rewritten setting.config (at name) place true to else End None (Limit place) ∷ [])
         else (if left then End None (Overlong place) ∷ [] else End None (Limit place) ∷ [])
 
-    after_alike : (left fits_own fits_other : Bool) → (fits_own ≡ true → fits_other ≡ true)
+    after_alike : (left fits_own fits_other : Bool) → (left ≡ true → fits_own ≡ true → AreNear setting.config to_above own other × (fits_other ≡ true))
         → Alike (length own) other true (after left fits_own (above ++ own) (to_above ++ own)) (after left fits_other (above ++ other) (to_above ++ other))
-    after_alike true true true fits = inl rewritten_alike
-    after_alike true true false fits = let none : false ≡ true = fits refl in cc
-    after_alike true false fits_other fits = inr (place, refl)
-    after_alike false true true fits = inl refl
-    after_alike false true false fits = inl refl
-    after_alike false false true fits = inl refl
-    after_alike false false false fits = inl refl
+    after_alike true true true near = inl (rewritten_alike (near refl refl).0)
+    after_alike true true false near = absurd (true≢false (sym (near refl refl).1))
+    after_alike true false fits_other near = inr (place, refl)
+    after_alike false true true near = inl refl
+    after_alike false true false near = inl refl
+    after_alike false false true near = inl refl
+    after_alike false false false near = inl refl
 
   -- what a redirection gives for the query and for the other name
   redirected_alike : (zone_origin owner target below : Labels) → above ≡ owner ++ below
-      → Contains (redirections_of setting.config) (record { owner = owner; target = target })
+      → (nat_lt used setting.rewrites ≡ true → nat_le (wire_octets ((target ++ below) ++ own)) 255 ≡ true
+      → AreNear setting.config (target ++ below) own other × (nat_le (wire_octets ((target ++ below) ++ other)) 255 ≡ true))
       → Alike (length own) other true (after_lookup setting (at (above ++ own)) zone_origin (redirected (above ++ own) owner (Some target)))
       (after_lookup setting (at (above ++ other)) zone_origin (redirected (above ++ other) owner (Some target)))
-  redirected_alike zone_origin owner target below is known =
+  redirected_alike zone_origin owner target below is near =
       subst (λ (of_query : List Branch). Alike (length own) other true of_query (after_lookup setting (at (above ++ other)) zone_origin (redirected (above ++ other) owner (Some target))))
       (sym (as_after own))
-      (subst (λ (branches : List Branch). Alike (length own) other true (after place (target ++ below) (kept own of_own) (kept other of_other) (nat_lt used setting.rewrites) (nat_le (wire_octets ((target ++ below) ++ own)) 255) (above ++ own) ((target ++ below) ++ own)) branches)
+      (subst (λ (branches : List Branch). Alike (length own) other true (after place (target ++ below) (nat_lt used setting.rewrites) (nat_le (wire_octets ((target ++ below) ++ own)) 255) (above ++ own) ((target ++ below) ++ own)) branches)
       (sym (as_after other))
-      (after_alike place (target ++ below) (kept own of_own) (kept other of_other) (nat_lt used setting.rewrites)
-      (nat_le (wire_octets ((target ++ below) ++ own)) 255) (nat_le (wire_octets ((target ++ below) ++ other)) 255) fits))
+      (after_alike place (target ++ below) (nat_lt used setting.rewrites)
+      (nat_le (wire_octets ((target ++ below) ++ own)) 255) (nat_le (wire_octets ((target ++ below) ++ other)) 255) near))
     where
       place : Place
       place = record { server = server; zone = zone_origin; owner = owner }
-
-      kept : (tail : Labels) → IsUnnamedTail setting.config above tail → IsUnnamedTail setting.config (target ++ below) tail
-      kept tail unnamed =
-          redirected_tail setting.config owner target below tail known
-          (subst (λ (x : Labels). IsUnnamedTail setting.config x tail) is unnamed)
 
       swapped : (tail : Labels) → swap (above ++ tail) owner target ≡ (target ++ below) ++ tail
       swapped tail = ap (λ (x : Labels). swap (x ++ tail) owner target) is ∙ swapped_below owner target below tail
 
       as_after : (tail : Labels) → after_lookup setting (at (above ++ tail)) zone_origin (redirected (above ++ tail) owner (Some target))
-          ≡ after place (target ++ below) (kept own of_own) (kept other of_other) (nat_lt used setting.rewrites) (nat_le (wire_octets ((target ++ below) ++ tail)) 255) (above ++ tail) ((target ++ below) ++ tail)
+          ≡ after place (target ++ below) (nat_lt used setting.rewrites) (nat_le (wire_octets ((target ++ below) ++ tail)) 255) (above ++ tail) ((target ++ below) ++ tail)
       as_after tail =
           ap (λ (to : Labels). after_lookup setting (at (above ++ tail)) zone_origin
           (if nat_le (wire_octets to) 255 then found_as.Rewrite true owner to else found_as.TooLong owner)) (swapped tail)
@@ -231,14 +243,9 @@ module _ (setting : Setting) (above own other : Labels)
         where
           by : (b : Bool)
               → after_lookup setting (at (above ++ tail)) zone_origin (if b then found_as.Rewrite true owner ((target ++ below) ++ tail) else found_as.TooLong owner)
-              ≡ after place (target ++ below) (kept own of_own) (kept other of_other) (nat_lt used setting.rewrites) b (above ++ tail) ((target ++ below) ++ tail)
+              ≡ after place (target ++ below) (nat_lt used setting.rewrites) b (above ++ tail) ((target ++ below) ++ tail)
           by true = refl
           by false = refl
-
-      fits : nat_le (wire_octets ((target ++ below) ++ own)) 255 ≡ true → nat_le (wire_octets ((target ++ below) ++ other)) 255 ≡ true
-      fits e =
-          le-leb (wire_octets ((target ++ below) ++ other)) 255
-          (omega (arith, leb-true (wire_octets ((target ++ below) ++ own)) 255 e, octets_below (target ++ below) own, octets_below (target ++ below) other, shorter))
 
   -- ---- whatever decides
 
@@ -254,23 +261,25 @@ module _ (setting : Setting) (above own other : Labels)
       by None = given_alike zone.origin owner None (in_order data_cmp (data_at zone owner rtype))
       by (Some target) = given_alike zone.origin owner (Some target) []
 
-  decision_alike : (zone : Zone) (rtype : RrType) (decides : Deciding) → IsKnownAbove setting.config above decides
+  decision_alike : StaysNear setting server used above own other → (zone : Zone) (rtype : RrType) → nearest_of setting.config server above ≡ Some zone
+      → (decides : Deciding) → open_deciding zone above ≡ decides → IsKnownAbove setting.config above decides
       → Alike (length own) other true (after_lookup setting (at (above ++ own)) zone.origin (answered zone (above ++ own) rtype decides))
       (after_lookup setting (at (above ++ other)) zone.origin (answered zone (above ++ other) rtype decides))
-  decision_alike zone rtype (ByCut cut_name) known = inl (referral_alike zone.origin cut_name (ns_names zone cut_name))
-  decision_alike zone rtype (ByRedirection owner None) known = inl refl
-  decision_alike zone rtype (ByRedirection owner (Some target)) (below, is, known) = redirected_alike zone.origin owner target below is known
-  decision_alike zone rtype (ByRecords owner) known = inl (records_alike zone rtype owner)
-  decision_alike zone rtype ByNothing known = inl refl
+  decision_alike stays zone rtype nearest (ByCut cut_name) is known = inl (referral_alike zone.origin cut_name (ns_names zone cut_name))
+  decision_alike stays zone rtype nearest (ByRedirection owner None) is known = inl refl
+  decision_alike stays zone rtype nearest (ByRedirection owner (Some target)) decided (below, is, known) =
+      redirected_alike zone.origin owner target below is (stays zone nearest owner target below decided is)
+  decision_alike stays zone rtype nearest (ByRecords owner) is known = inl (records_alike zone rtype owner)
+  decision_alike stays zone rtype nearest ByNothing is known = inl refl
 
   -- the step of the state at the query and at the other name
-  carried_alike : (rtype : RrType)
+  pub carried_alike : StaysNear setting server used above own other → (rtype : RrType)
       → Alike (length own) other true (next setting rtype (at (above ++ own))) (next setting rtype (at (above ++ other)))
-  carried_alike rtype =
+  carried_alike stays rtype =
       subst (λ (zone : Option Zone). Alike (length own) other true (next setting rtype (at (above ++ own))) (in_zone setting rtype (at (above ++ other)) zone))
-      (sym (nearest_with_tail setting.config above other of_other server))
+      (sym (both.near_other server))
       (subst (λ (zone : Option Zone). Alike (length own) other true (in_zone setting rtype (at (above ++ own)) zone) (in_zone setting rtype (at (above ++ other)) (nearest_of setting.config server above)))
-      (sym (nearest_with_tail setting.config above own of_own server))
+      (sym (both.near_own server))
       (by (nearest_of setting.config server above) refl))
     where
       by : (zone : Option Zone) → nearest_of setting.config server above ≡ zone
@@ -279,11 +288,11 @@ module _ (setting : Setting) (above own other : Labels)
       by (Some zone) nearest =
           subst (λ (decides : Deciding). Alike (length own) other true (after_lookup setting (at (above ++ own)) zone.origin (answered zone (above ++ own) rtype decides))
           (in_zone setting rtype (at (above ++ other)) (Some zone)))
-          (sym (open_tail zone above own (opens_in setting.config above own server zone of_own nearest)))
+          (sym (open_tail zone above own (both.open_own zone nearest)))
           (subst (λ (decides : Deciding). Alike (length own) other true (after_lookup setting (at (above ++ own)) zone.origin (answered zone (above ++ own) rtype (open_deciding zone above)))
           (after_lookup setting (at (above ++ other)) zone.origin (answered zone (above ++ other) rtype decides)))
-          (sym (open_tail zone above other (opens_in setting.config above other server zone of_other nearest)))
-          (decision_alike zone rtype (open_deciding zone above)
+          (sym (open_tail zone above other (both.open_other zone nearest)))
+          (decision_alike stays zone rtype nearest (open_deciding zone above) refl
           (known_above setting.config zone above (nearest_tells setting.config server above zone nearest).0)))
 
 -- the name has the query's tail, and it and the other one are unnamed below the labels above
@@ -299,7 +308,7 @@ Follows config own other state = state.carried ≡ true → Carries config own o
 
 module _ (setting : Setting) (rtype : RrType) (own other : Labels) where
   -- each state that follows on a state whose name isn't carried is so too
-  uncarried_on : (state : State) → state.carried ≡ false
+  pub uncarried_on : (state : State) → state.carried ≡ false
       → AllByRecursion (LeadsSo (λ to. to.carried ≡ false) (λ leaf. Unit {0})) (next setting rtype state)
   uncarried_on state uncarried =
       each_branch setting rtype state (LeadsSo (λ to. to.carried ≡ false) (λ leaf. Unit {0})) (λ leaf. tt) (λ cut leaf. tt)
@@ -322,12 +331,38 @@ module _ (setting : Setting) (rtype : RrType) (own other : Labels) where
   branch_stays (End (Some (Refer cut)) leaf) uncarried = refl
   branch_stays (End (Some (Rewrite place by_dname name)) leaf) uncarried = refl
 
-  branches_stay : (branches : List Branch) → AllByRecursion (LeadsSo (λ to. to.carried ≡ false) (λ leaf. Unit {0})) branches
+  pub branches_stay : (branches : List Branch) → AllByRecursion (LeadsSo (λ to. to.carried ≡ false) (λ leaf. Unit {0})) branches
       → branches ≡ map (retailed_branch (length own) other false) branches
   branches_stay [] each = refl
   branches_stay (branch ∷ rest) each =
       ap (λ (b : Branch). b ∷ rest) (branch_stays branch each.0)
       ∙ ap (λ (bs : List Branch). retailed_branch (length own) other false branch ∷ bs) (branches_stay rest each.1)
+
+  -- unnamed tails are open
+  opens : (above server : Labels) → IsUnnamedTail setting.config above own → IsUnnamedTail setting.config above other → AreOpen setting.config server above own other
+  opens above server of_own of_other =
+      record {
+        near_own = nearest_with_tail setting.config above own of_own;
+        near_other = nearest_with_tail setting.config above other of_other;
+        open_own = λ zone nearest. opens_in setting.config above own server zone of_own nearest;
+        open_other = λ zone nearest. opens_in setting.config above other server zone of_other nearest;
+      }
+
+  -- and stay so
+  stays : (above server : Labels) → IsUnnamedTail setting.config above own → IsUnnamedTail setting.config above other → (zone : Zone)
+      → nearest_of setting.config server above ≡ Some zone → (owner target below : Labels) → open_deciding zone above ≡ ByRedirection owner (Some target)
+      → above ≡ owner ++ below → AreNear setting.config (target ++ below) own other
+  stays above server of_own of_other zone nearest owner target below decided is ns =
+      let known =
+      subst (IsKnownAbove setting.config above) decided (known_above setting.config zone above (nearest_tells setting.config server above zone nearest).0) in
+      nearest_with_tail setting.config (target ++ below) other (kept known.0 known.1 known.2 other of_other) ns
+      ∙ sym (nearest_with_tail setting.config (target ++ below) own (kept known.0 known.1 known.2 own of_own) ns)
+    where
+      kept : (rest : Labels) → above ≡ owner ++ rest → Contains (redirections_of setting.config) (record { owner = owner; target = target })
+          → (tail : Labels) → IsUnnamedTail setting.config above tail → IsUnnamedTail setting.config (target ++ below) tail
+      kept rest other_is known tail unnamed =
+          redirected_tail setting.config owner target below tail known
+          (subst (λ (x : Labels). IsUnnamedTail setting.config x tail) is unnamed)
 
   -- a state and the state with the tail replaced have the same branches, but for the tail, unless the query's end
   -- overlong
@@ -346,7 +381,12 @@ module _ (setting : Setting) (rtype : RrType) (own other : Labels) where
         ∙ ap (λ (name : Labels). record state { name = name }) (retailed_tail has.above own other)
         ∙ ap (λ (b : Bool). record state { name = has.above ++ other; carried = b }) carried in
         subst₂ (λ (s t : State). Alike (length own) other true (next setting rtype s) (next setting rtype t)) (sym same) (sym changed)
-        (carried_alike setting has.above own other has.of_own has.of_other shorter state.server state.cut state.used state.last state.zone rtype)
+        (carried_alike setting has.above own other state.server (opens has.above state.server has.of_own has.of_other) state.cut state.used state.last state.zone
+        (λ zone nearest owner target below decided is left fits. (
+          stays has.above state.server has.of_own has.of_other zone nearest owner target below decided is,
+          le-leb (wire_octets ((target ++ below) ++ other)) 255
+              (omega (arith, leb-true (wire_octets ((target ++ below) ++ own)) 255 fits, octets_below (target ++ below) own, octets_below (target ++ below) other, shorter)),
+        )) rtype)
     by false uncarried = inl (branches_stay (next setting rtype state) (uncarried_on state uncarried))
 
   -- what a name with the query's tail is rewritten to by a DNAME record has the tail

@@ -1,11 +1,10 @@
 -- Whole walks of a query and of the name with the other tail: they correspond branch by branch, until one of the query ends
 -- overlong.
-use Rattle.std.proofs.Common.{◌≡◌, ◌⊎◌, ℕ, zero, suc, ◌≤◌, Bool, true, false, ◌==◌, List, [], ◌∷◌, ◌++◌, map, length, slice_get, Option, Some, None, option_map, sym, refl, ap, ◌∙◌, subst, inl, inr, true≢false}
+use Rattle.std.proofs.Common.{◌≡◌, ◌⊎◌, ℕ, zero, suc, Bool, true, false, ◌==◌, List, [], ◌∷◌, ◌++◌, map, length, slice_get, Option, Some, None, option_map, sym, refl, ap, ◌∙◌, subst, inl, inr, true≢false}
 use Rattle.std.specs.Option.{option_to_list}
 use Rattle.std.proofs.lemmas.Option.{slice_get-map}
 use Rattle.dns_data.specs.Name.{Labels}
 use Rattle.dns_data.specs.declared.rr_type.RrType.{RrType}
-use Rattle.dns_data.proofs.NameFronts.{tail_octets}
 use Rattle.net_model.specs.declared.place.Place.{Place}
 use Rattle.net_model.specs.declared.walk.Hop.{Hop}
 use Rattle.net_model.specs.declared.walk.Leaf.{Leaf}
@@ -16,7 +15,7 @@ use Rattle.net_model.specs.Retail.{retailed_state, retailed_hop, retailed_hops, 
 use Rattle.net_model.specs.Step.{Setting, Branch, Go, End, next}
 use Rattle.net_model.specs.Tails.{is_overlong, IsFrontOf}
 use Rattle.net_model.specs.Walk.{led_on, branched, walk_from}
-use Rattle.walk_laws.proofs.WalksAlike.AlikeSteps.{retailed_branch, Alike, Follows, alike, follows_on}
+use Rattle.walk_laws.proofs.WalksAlike.AlikeSteps.{retailed_branch, Alike}
 use Rattle.net_model.proofs.Leads.{GoesOn, EndsBy, branch_taken, first_state}
 
 -- a walk from a state by a branch that goes on, and then along the numbers
@@ -41,6 +40,12 @@ module _ (setting : Setting) (rtype : RrType) (own other : Labels) where
 
   abbrev changed : Walk → Walk
   changed = retail (length own) other
+
+  -- Walks go on from states of a kind to such states alone, and each branches as with the tail replaced, unless its branches
+  -- end overlong.
+  pub record StepsAlike (Among : State → Type 0) : Type 0 where
+    pub alike : (state : State) → Among state → Alike (length own) other state.carried (next setting rtype state) (next setting rtype (retailed_state (length own) other state))
+    pub on : (state : State) → Among state → (number : ℕ) (hop : Hop) (to : State) → slice_get (next setting rtype state) number ≡ Some (Go hop to) → Among to
 
   -- the name with the other tail goes the same way by a branch, if it does so behind it
   branched_alike : (state : State) (is_last : Bool) (on on_other : State → Option Walk) (branch : Option Branch)
@@ -89,7 +94,7 @@ module _ (setting : Setting) (rtype : RrType) (own other : Labels) where
       only_end state place (length numbers == 0) (walk_from setting rtype numbers) number walk
       (ap (λ (branches : List Branch). branched state (length numbers == 0) (walk_from setting rtype numbers) (slice_get branches number)) (sym ends) ∙ e)
 
-  module _ (shorter : tail_octets other ≤ tail_octets own) where
+  module _ (Among : State → Type 0) (steps : StepsAlike Among) where
     -- ---- where no walk of the query ends overlong
 
     -- no walk from the state ends overlong
@@ -98,12 +103,12 @@ module _ (setting : Setting) (rtype : RrType) (own other : Labels) where
 
     -- if no walk from a state ends overlong, by the same numbers the other name has the same walk with the tail
     -- replaced, or neither has one
-    pub along_from : (numbers : List ℕ) (state : State) → Follows setting.config own other state → NoneOverlong state
+    pub along_from : (numbers : List ℕ) (state : State) → Among state → NoneOverlong state
         → walk_from setting rtype numbers (changed_state state) ≡ option_map changed (walk_from setting rtype numbers state)
-    along_from [] state follows none = refl
-    along_from (number ∷ numbers) state follows none =
-        by (alike setting rtype own other state shorter follows)
-        (λ hop to is. along_from numbers to (follows_on setting rtype own other state follows number hop to is)
+    along_from [] state among none = refl
+    along_from (number ∷ numbers) state among none =
+        by (steps.alike state among)
+        (λ hop to is. along_from numbers to (steps.on state among number hop to is)
         (λ ns w e. none (number ∷ ns) (led_on state hop w) (led_walk setting rtype number ns state to hop w is e)))
       where
         by : Alike (length own) other state.carried (next setting rtype state) (next setting rtype (changed_state state))
@@ -118,13 +123,13 @@ module _ (setting : Setting) (rtype : RrType) (own other : Labels) where
     -- ---- a walk of the query that doesn't end overlong
 
     -- a walk of the query that doesn't end overlong is, with the tail replaced, a walk of the other name
-    pub walk_kept : (numbers : List ℕ) (state : State) (walk : Walk) → Follows setting.config own other state
+    pub walk_kept : (numbers : List ℕ) (state : State) (walk : Walk) → Among state
         → walk_from setting rtype numbers state ≡ Some walk → is_overlong walk.leaf ≡ false
         → walk_from setting rtype numbers (changed_state state) ≡ Some (changed walk)
-    walk_kept [] state walk follows e good = cc
-    walk_kept (number ∷ numbers) state walk follows e good =
-        by (alike setting rtype own other state shorter follows) (λ hop to is. behind hop to is (walk_from setting rtype numbers to) refl
-        (λ later goes kept. walk_kept numbers to later (follows_on setting rtype own other state follows number hop to is) goes kept))
+    walk_kept [] state walk among e good = cc
+    walk_kept (number ∷ numbers) state walk among e good =
+        by (steps.alike state among) (λ hop to is. behind hop to is (walk_from setting rtype numbers to) refl
+        (λ later goes kept. walk_kept numbers to later (steps.on state among number hop to is) goes kept))
       where
         behind : (hop : Hop) (to : State) → slice_get (next setting rtype state) number ≡ Some (Go hop to)
             → (found : Option Walk) → walk_from setting rtype numbers to ≡ found
@@ -204,13 +209,13 @@ module _ (setting : Setting) (rtype : RrType) (own other : Labels) where
     -- each walk of the query is, with the tail replaced, the front of a walk with the other tail, if a walk goes on
     -- from each state
     pub overlong_front : ((state : State) → (numbers : List ℕ) × (walk : Walk) × (walk_from setting rtype numbers state ≡ Some walk))
-        → (numbers : List ℕ) (state : State) (walk : Walk) → Follows setting.config own other state
+        → (numbers : List ℕ) (state : State) (walk : Walk) → Among state
         → walk_from setting rtype numbers state ≡ Some walk → FrontFrom state walk
-    overlong_front ends_somewhere [] state walk follows e = cc
-    overlong_front ends_somewhere (number ∷ numbers) state walk follows e =
-        by (alike setting rtype own other state shorter follows)
+    overlong_front ends_somewhere [] state walk among e = cc
+    overlong_front ends_somewhere (number ∷ numbers) state walk among e =
+        by (steps.alike state among)
         (branch_taken state (length numbers == 0) (walk_from setting rtype numbers) (slice_get (next setting rtype state) number) walk e)
-        (λ hop to later is goes. overlong_front ends_somewhere numbers to later (follows_on setting rtype own other state follows number hop to is) goes)
+        (λ hop to later is goes. overlong_front ends_somewhere numbers to later (steps.on state among number hop to is) goes)
       where
         by : Alike (length own) other state.carried (next setting rtype state) (next setting rtype (changed_state state))
             → GoesOn state (walk_from setting rtype numbers) (slice_get (next setting rtype state) number) walk
@@ -239,13 +244,13 @@ module _ (setting : Setting) (rtype : RrType) (own other : Labels) where
         → walk_from setting rtype numbers (changed_state to) ≡ Some later → is_overlong later.leaf ≡ true → MeetsOverlong to
 
     -- if a walk of the other name from a state ends overlong, so does some walk of the query from there
-    pub overlong_back : (numbers : List ℕ) (state : State) (walk : Walk) → Follows setting.config own other state
+    pub overlong_back : (numbers : List ℕ) (state : State) (walk : Walk) → Among state
         → walk_from setting rtype numbers (changed_state state) ≡ Some walk → is_overlong walk.leaf ≡ true → MeetsOverlong state
-    overlong_back [] state walk follows e long = cc
-    overlong_back (number ∷ numbers) state walk follows e long =
-        by (alike setting rtype own other state shorter follows)
+    overlong_back [] state walk among e long = cc
+    overlong_back (number ∷ numbers) state walk among e long =
+        by (steps.alike state among)
         (branch_taken (changed_state state) (length numbers == 0) (walk_from setting rtype numbers) (slice_get (next setting rtype (changed_state state)) number) walk e)
-        (λ hop to later is goes so. overlong_back numbers to later (follows_on setting rtype own other state follows number hop to is) goes so)
+        (λ hop to later is goes so. overlong_back numbers to later (steps.on state among number hop to is) goes so)
       where
         onward : (branch : Option Branch) → slice_get (next setting rtype state) number ≡ branch → (hop : Hop) (to : State) (later : Walk)
             → option_map (changed_branch state) branch ≡ Some (Go hop to) → walk_from setting rtype numbers to ≡ Some later → is_overlong later.leaf ≡ true

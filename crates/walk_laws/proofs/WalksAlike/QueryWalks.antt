@@ -25,8 +25,8 @@ use Rattle.net_model.specs.Step.{Setting, Go, following, arrived, start, next}
 use Rattle.net_model.specs.Tails.{AreTails, is_overlong, IsFrontOf, WalksAs}
 use Rattle.net_model.specs.Tree.{IsReached, AreReached, HasMoreThan}
 use Rattle.net_model.specs.Walk.{walk_from, walk_along, IsWalk, AreWalks, IsBoundedWith}
-use Rattle.walk_laws.proofs.WalksAlike.AlikeSteps.{retailed_tail, map_same, Follows, follows_on}
-use Rattle.walk_laws.proofs.WalksAlike.AlikeWalks.{along_from, walk_kept, overlong_front, overlong_back}
+use Rattle.walk_laws.proofs.WalksAlike.AlikeSteps.{retailed_tail, map_same, Follows, alike, follows_on}
+use Rattle.walk_laws.proofs.WalksAlike.AlikeWalks.{StepsAlike, along_from, walk_kept, overlong_front, overlong_back}
 use Rattle.net_model.proofs.Counting.{more_images, no_more_than}
 use Rattle.net_model.proofs.EndsSomewhere.{ends_somewhere}
 use Rattle.net_model.proofs.WalkEnds.{item}
@@ -64,14 +64,131 @@ not_overlong (Overlong place) never = absurd (never place refl)
 not_overlong _ never = refl
 
 -- an image is there where what it is of is
-some_image : {X Y : Type 0} (f : X → Y) (o : Option X) → IsSome (option_map f o) ↔ IsSome o
+pub some_image : {X Y : Type 0} (f : X → Y) (o : Option X) → IsSome (option_map f o) ↔ IsSome o
 some_image f None = ((λ is. is), (λ is. is))
 some_image f (Some x) = ((λ is. refl), (λ is. refl))
 
 -- the images of what is there
-some_images : {X Y : Type 0} (f : X → Y) (xs : List X) → map (option_map f) (map (λ (x : X). Some x) xs) ≡ map (λ (y : Y). Some y) (map f xs)
+pub some_images : {X Y : Type 0} (f : X → Y) (xs : List X) → map (option_map f) (map (λ (x : X). Some x) xs) ≡ map (λ (y : Y). Some y) (map f xs)
 some_images f [] = refl
 some_images f (x ∷ xs) = ap (λ rest. Some (f x) ∷ rest) (some_images f xs)
+
+-- The query begins in states of a kind, and the other name in these with the tail replaced.
+pub record BeginAlike (setting : Setting) (above own other : Labels) (Among : State → Type 0) : Type 0 where
+  pub starts : start setting.config (above ++ other) ≡ map (retailed_state (length own) other) (start setting.config (above ++ own))
+  pub among : (number : ℕ) (state : State) → slice_get (start setting.config (above ++ own)) number ≡ Some state → Among state
+
+module _ (setting : Setting) (above own other : Labels) (rtype : RrType) (Among : State → Type 0) (begins : BeginAlike setting above own other Among)
+    (steps : StepsAlike setting rtype own other Among) where
+  abbrev state_with : State → State
+  state_with = retailed_state (length own) other
+
+  abbrev walk_with : Walk → Walk
+  walk_with = retail (length own) other
+
+  started : (number : ℕ) → slice_get (start setting.config (above ++ other)) number ≡ option_map state_with (slice_get (start setting.config (above ++ own)) number)
+  started number =
+      ap (λ (states : List State). slice_get states number) begins.starts ∙ slice_get-map state_with (start setting.config (above ++ own)) number
+
+  -- where a query has a start state there is a top server
+  has_tops : (number : ℕ) (state : State) → slice_get (start setting.config (above ++ own)) number ≡ Some state → setting.config.tops ≢ []
+  has_tops number state is none =
+      let nothing : slice_get {X = State} [] number ≡ Some state =
+      ap (λ (tops : List Labels). slice_get (map (arrived setting.config (above ++ own) true 0 None) tops) number) (sym none) ∙ is in
+      no_item number nothing
+    where
+      no_item : (number : ℕ) → slice_get {X = State} [] number ≡ Some state → ⊥
+      no_item zero e = cc
+      no_item (suc number) e = cc
+
+  -- a walk of the query that doesn't end overlong is, with the tail replaced, one of the other name
+  pub kept_along : (numbers : List ℕ) (walk : Walk) → walk_along setting (above ++ own) rtype numbers ≡ Some walk → is_overlong walk.leaf ≡ false
+      → walk_along setting (above ++ other) rtype numbers ≡ Some (walk_with walk)
+  kept_along numbers walk e good =
+      let begun = begins_at setting (above ++ own) rtype numbers walk e in
+      ap (walk_along setting (above ++ other) rtype) begun.numbers_are
+      ∙ begun_walk setting (above ++ other) rtype begun.number begun.rest (state_with begun.state) (walk_with walk)
+      (started begun.number ∙ ap (option_map state_with) begun.starts)
+      (walk_kept setting rtype own other Among steps begun.rest begun.state walk (begins.among begun.number begun.state begun.starts) begun.goes good)
+
+  alike_along : IsBoundedWith setting (above ++ own) rtype → (numbers : List ℕ)
+      → walk_along setting (above ++ other) rtype numbers ≡ option_map walk_with (walk_along setting (above ++ own) rtype numbers)
+  alike_along bounded [] = refl
+  alike_along bounded (number ∷ numbers) =
+      ap (option_and_then (walk_from setting rtype numbers)) (started number) ∙ by (slice_get (start setting.config (above ++ own)) number) refl
+    where
+      by : (begin : Option State) → slice_get (start setting.config (above ++ own)) number ≡ begin
+          → option_and_then (walk_from setting rtype numbers) (option_map state_with begin) ≡ option_map walk_with (option_and_then (walk_from setting rtype numbers) begin)
+      by None is = refl
+      by (Some state) is =
+          along_from setting rtype own other Among steps numbers state (begins.among number state is)
+          (λ ns walk goes. not_overlong walk.leaf
+          (λ place. bounded walk place (number ∷ ns, begun_walk setting (above ++ own) rtype number ns state walk is goes)))
+
+  alike_bounded : IsBoundedWith setting (above ++ own) rtype → (walks : List Walk) → AreWalks setting (above ++ own) rtype walks
+      → AreWalks setting (above ++ other) rtype (map walk_with walks)
+  alike_bounded bounded walks (paths, are, listed) = (
+    paths,
+    record {
+      ordered = are.ordered;
+      all = λ numbers. (
+        (λ has. subst (λ (o : Option Walk). IsSome o) (sym (alike_along bounded numbers))
+            ((some_image walk_with (walk_along setting (above ++ own) rtype numbers)).1 ((are.all numbers).0 has))),
+        (λ is. (are.all numbers).1 ((some_image walk_with (walk_along setting (above ++ own) rtype numbers)).0
+            (subst (λ (o : Option Walk). IsSome o) (alike_along bounded numbers) is))),
+      );
+    },
+    map_same (walk_along setting (above ++ other) rtype) (λ (numbers : List ℕ). option_map walk_with (walk_along setting (above ++ own) rtype numbers)) paths
+        (alike_along bounded)
+        ∙ sym (map-map (option_map walk_with) (walk_along setting (above ++ own) rtype) paths)
+        ∙ ap (map (option_map walk_with)) listed ∙ some_images walk_with walks,
+  )
+
+  -- a walk of the query is, with the tail replaced, the front of one of the other name
+  pub front_along : (walk : Walk) → IsWalk setting (above ++ own) rtype walk
+      → (whole : Walk) × IsWalk setting (above ++ other) rtype whole × IsFrontOf (walk_with walk) whole
+  front_along walk (numbers, e) =
+      let begun = begins_at setting (above ++ own) rtype numbers walk e in
+      let front =
+      overlong_front setting rtype own other Among steps (ends_somewhere setting rtype (has_tops begun.number begun.state begun.starts)) begun.rest begun.state walk
+      (begins.among begun.number begun.state begun.starts) begun.goes in (
+        front.1,
+        (
+          begun.number ∷ front.0,
+          begun_walk setting (above ++ other) rtype begun.number front.0 (state_with begun.state) front.1
+              (started begun.number ∙ ap (option_map state_with) begun.starts) front.2,
+        ),
+        front.3,
+      )
+
+  -- with the other tail the name walks as the query does
+  pub walks_alike : WalksAs setting rtype above own other
+  walks_alike =
+      record {
+        walks = kept_along;
+        bounded = alike_bounded;
+        along = alike_along;
+        overlong = λ walk is long. front_along walk is;
+      }
+
+  -- where the name with the other tail meets an overlong rewrite, so does the query
+  pub overlong_alike : (walk : Walk) → IsWalk setting (above ++ other) rtype walk → is_overlong walk.leaf ≡ true
+      → (of_own : Walk) × IsWalk setting (above ++ own) rtype of_own × (is_overlong of_own.leaf ≡ true)
+  overlong_alike walk (numbers, e) long =
+      let begun = begins_at setting (above ++ other) rtype numbers walk e in
+      by begun (slice_get (start setting.config (above ++ own)) begun.number) refl
+    where
+      by : (begun : BeginsAt setting (above ++ other) rtype numbers walk) → (begin : Option State) → slice_get (start setting.config (above ++ own)) begun.number ≡ begin
+          → (of_own : Walk) × IsWalk setting (above ++ own) rtype of_own × (is_overlong of_own.leaf ≡ true)
+      by begun None is =
+          let nothing : None ≡ Some begun.state = sym (started begun.number ∙ ap (option_map state_with) is) ∙ begun.starts in cc
+      by begun (Some state) is =
+          let there : Some (state_with state) ≡ Some begun.state = sym (started begun.number ∙ ap (option_map state_with) is) ∙ begun.starts in
+          let same : state_with state ≡ begun.state = cc in
+          let found =
+          overlong_back setting rtype own other Among steps begun.rest state walk (begins.among begun.number state is)
+          (ap (walk_from setting rtype begun.rest) same ∙ begun.goes) long in
+          (found.1, (begun.number ∷ found.0, begun_walk setting (above ++ own) rtype begun.number found.0 state found.1 is found.2), found.3)
 
 module _ (setting : Setting) (above own other : Labels) (tails : AreTails setting.config above own other) where
   abbrev changed_state : State → State
@@ -102,89 +219,30 @@ module _ (setting : Setting) (above own other : Labels) (tails : AreTails settin
       setting.config.tops start_alike
       ∙ sym (map-map changed_state (arrived setting.config (above ++ own) true 0 None) setting.config.tops)
 
-  started : (number : ℕ) → slice_get (start setting.config (above ++ other)) number ≡ option_map changed_state (slice_get (start setting.config (above ++ own)) number)
-  started number =
-      ap (λ (states : List State). slice_get states number) starts_alike ∙ slice_get-map changed_state (start setting.config (above ++ own)) number
-
   start_follows : (number : ℕ) (state : State) → slice_get (start setting.config (above ++ own)) number ≡ Some state → Follows setting.config own other state
   start_follows number state is =
       item (Follows setting.config own other) (start setting.config (above ++ own)) number state
       (all_images (arrived setting.config (above ++ own) true 0 None) (Follows setting.config own other) setting.config.tops
       (λ server has carried. record { above = above; is = refl; of_own = tails.of_own; of_other = tails.of_other })) is
 
-  -- where a query has a start state there is a top server
-  has_tops : (number : ℕ) (state : State) → slice_get (start setting.config (above ++ own)) number ≡ Some state → setting.config.tops ≢ []
-  has_tops number state is none =
-      let nothing : slice_get {X = State} [] number ≡ Some state =
-      ap (λ (tops : List Labels). slice_get (map (arrived setting.config (above ++ own) true 0 None) tops) number) (sym none) ∙ is in
-      no_item number nothing
-    where
-      no_item : (number : ℕ) → slice_get {X = State} [] number ≡ Some state → ⊥
-      no_item zero e = cc
-      no_item (suc number) e = cc
-
   -- ---- their walks
 
+  begin_alike : BeginAlike setting above own other (Follows setting.config own other)
+  begin_alike = record { starts = starts_alike; among = start_follows }
+
   module _ (rtype : RrType) where
+    steps_alike : StepsAlike setting rtype own other (Follows setting.config own other)
+    steps_alike = record { alike = λ state follows. alike setting rtype own other state shorter follows; on = follows_on setting rtype own other }
+
     -- a walk of the query that doesn't end overlong is, with the tail replaced, one of the other name
     pub walks_kept : (numbers : List ℕ) (walk : Walk) → walk_along setting (above ++ own) rtype numbers ≡ Some walk → is_overlong walk.leaf ≡ false
         → walk_along setting (above ++ other) rtype numbers ≡ Some (changed walk)
-    walks_kept numbers walk e good =
-        let begun = begins_at setting (above ++ own) rtype numbers walk e in
-        ap (walk_along setting (above ++ other) rtype) begun.numbers_are
-        ∙ begun_walk setting (above ++ other) rtype begun.number begun.rest (changed_state begun.state) (changed walk)
-        (started begun.number ∙ ap (option_map changed_state) begun.starts)
-        (walk_kept setting rtype own other shorter begun.rest begun.state walk (start_follows begun.number begun.state begun.starts) begun.goes good)
-
-    along_alike : IsBoundedWith setting (above ++ own) rtype → (numbers : List ℕ)
-        → walk_along setting (above ++ other) rtype numbers ≡ option_map changed (walk_along setting (above ++ own) rtype numbers)
-    along_alike bounded [] = refl
-    along_alike bounded (number ∷ numbers) =
-        ap (option_and_then (walk_from setting rtype numbers)) (started number) ∙ by (slice_get (start setting.config (above ++ own)) number) refl
-      where
-        by : (begin : Option State) → slice_get (start setting.config (above ++ own)) number ≡ begin
-            → option_and_then (walk_from setting rtype numbers) (option_map changed_state begin) ≡ option_map changed (option_and_then (walk_from setting rtype numbers) begin)
-        by None is = refl
-        by (Some state) is =
-            along_from setting rtype own other shorter numbers state (start_follows number state is)
-            (λ ns walk goes. not_overlong walk.leaf
-            (λ place. bounded walk place (number ∷ ns, begun_walk setting (above ++ own) rtype number ns state walk is goes)))
-
-    bounded_alike : IsBoundedWith setting (above ++ own) rtype → (walks : List Walk) → AreWalks setting (above ++ own) rtype walks
-        → AreWalks setting (above ++ other) rtype (map changed walks)
-    bounded_alike bounded walks (paths, are, listed) = (
-      paths,
-      record {
-        ordered = are.ordered;
-        all = λ numbers. (
-          (λ has. subst (λ (o : Option Walk). IsSome o) (sym (along_alike bounded numbers))
-              ((some_image changed (walk_along setting (above ++ own) rtype numbers)).1 ((are.all numbers).0 has))),
-          (λ is. (are.all numbers).1 ((some_image changed (walk_along setting (above ++ own) rtype numbers)).0
-              (subst (λ (o : Option Walk). IsSome o) (along_alike bounded numbers) is))),
-        );
-      },
-      map_same (walk_along setting (above ++ other) rtype) (λ (numbers : List ℕ). option_map changed (walk_along setting (above ++ own) rtype numbers)) paths
-          (along_alike bounded)
-          ∙ sym (map-map (option_map changed) (walk_along setting (above ++ own) rtype) paths)
-          ∙ ap (map (option_map changed)) listed ∙ some_images changed walks,
-    )
+    walks_kept = kept_along setting above own other rtype (Follows setting.config own other) begin_alike steps_alike
 
     -- a walk of the query is, with the tail replaced, the front of one of the other name
     pub front_kept : (walk : Walk) → IsWalk setting (above ++ own) rtype walk
         → (whole : Walk) × IsWalk setting (above ++ other) rtype whole × IsFrontOf (changed walk) whole
-    front_kept walk (numbers, e) =
-        let begun = begins_at setting (above ++ own) rtype numbers walk e in
-        let front =
-        overlong_front setting rtype own other shorter (ends_somewhere setting rtype (has_tops begun.number begun.state begun.starts)) begun.rest begun.state walk
-        (start_follows begun.number begun.state begun.starts) begun.goes in (
-          front.1,
-          (
-            begun.number ∷ front.0,
-            begun_walk setting (above ++ other) rtype begun.number front.0 (changed_state begun.state) front.1
-                (started begun.number ∙ ap (option_map changed_state) begun.starts) front.2,
-          ),
-          front.3,
-        )
+    front_kept = front_along setting above own other rtype (Follows setting.config own other) begin_alike steps_alike
 
     -- with the other tail the name walks as the query does. Below an unnamed name no zone has an origin and no record an
     -- owner (UnnamedTails.far_names), so at each step both names are looked up in one zone (nearest_with_tail) and one
@@ -194,34 +252,14 @@ module _ (setting : Setting) (above own other : Labels) (tails : AreTails settin
     -- Number by number this makes walks (AlikeWalks.along_from, walk_kept), and the front of a walk where the query's ends
     -- overlong (overlong_front), which some walk continues, since each state has a walk (EndsSomewhere.ends_somewhere).
     pub walks_as : WalksAs setting rtype above own other
-    walks_as =
-        record {
-          walks = walks_kept;
-          bounded = bounded_alike;
-          along = along_alike;
-          overlong = λ walk is long. front_kept walk is;
-        }
+    walks_as = walks_alike setting above own other rtype (Follows setting.config own other) begin_alike steps_alike
 
     -- where the name with the other tail meets an overlong rewrite, so does the query. It goes along the same numbers:
     -- where its step isn't alike (AlikeSteps.alike) it has met one, and at the end its name, which is no shorter, meets one
     -- too (AlikeWalks.overlong_back).
     pub overlong_too : (walk : Walk) → IsWalk setting (above ++ other) rtype walk → is_overlong walk.leaf ≡ true
         → (of_own : Walk) × IsWalk setting (above ++ own) rtype of_own × (is_overlong of_own.leaf ≡ true)
-    overlong_too walk (numbers, e) long =
-        let begun = begins_at setting (above ++ other) rtype numbers walk e in
-        by begun (slice_get (start setting.config (above ++ own)) begun.number) refl
-      where
-        by : (begun : BeginsAt setting (above ++ other) rtype numbers walk) → (begin : Option State) → slice_get (start setting.config (above ++ own)) begun.number ≡ begin
-            → (of_own : Walk) × IsWalk setting (above ++ own) rtype of_own × (is_overlong of_own.leaf ≡ true)
-        by begun None is =
-            let nothing : None ≡ Some begun.state = sym (started begun.number ∙ ap (option_map changed_state) is) ∙ begun.starts in cc
-        by begun (Some state) is =
-            let there : Some (changed_state state) ≡ Some begun.state = sym (started begun.number ∙ ap (option_map changed_state) is) ∙ begun.starts in
-            let same : changed_state state ≡ begun.state = cc in
-            let found =
-            overlong_back setting rtype own other shorter begun.rest state walk (start_follows begun.number state is)
-            (ap (walk_from setting rtype begun.rest) same ∙ begun.goes) long in
-            (found.1, (begun.number ∷ found.0, begun_walk setting (above ++ own) rtype begun.number found.0 state found.1 is found.2), found.3)
+    overlong_too = overlong_alike setting above own other rtype (Follows setting.config own other) begin_alike steps_alike
 
     -- ---- the states on them
 

@@ -9,5 +9,5 @@ pub returns : goal.returns
 returns c = λ is.
     let tops = c.in_ok-tops.tops in
     let least = c.args.sets.now.least in
-    all_in c.args.config.now least tops (subst (λ (names : List Labels). IsSetOf names tops) c.items.ensures c.in_ok-tops.ensures)
-    (sym (c.are_followed.ensures ∙ ap (list_all (is_in tops least)) c.items-2.ensures) ∙ is)
+    all_in c.args.config.now least tops (subst (λ (names : List Labels). IsSetOf names tops) c.tops.ensures c.in_ok-tops.ensures)
+    (sym (c.are_followed.ensures ∙ ap (list_all (is_in tops least)) c.servers.ensures.servers) ∙ is)

@@ -14,7 +14,7 @@ returns-clause-few c =
     omega (
       arith,
       c.if-count-queries.false,
-      ap (λ (tops : List Labels). length tops) c.items-count.ensures,
+      ap (λ (tops : List Labels). length tops) c.tops-count.ensures,
       ap (λ (config : Config). length config.tops) c.config.ensures,
       div-mul-le_self queries.states 12,
     ) in

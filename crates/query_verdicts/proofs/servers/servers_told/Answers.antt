@@ -13,7 +13,7 @@ told_of-requires c = record { tops = c.in_ok-tops.ensures; known = c.loop-server
 pub loop-server-preserved : goal.loop-server-preserved
 loop-server-preserved c =
     let queries = c.args.queries.now in
-    let servers = c.items-server-items.result.now in
+    let servers = c.servers-server-items.result.now in
     let index = c.loop-server.server-index in
     record {
       so_far = subst (AreSoFar queries.trees queries.rewrites queries.states (take (index + 1) servers)) (sym c.in_ok-push-in-Ok.ensures.ok)
@@ -27,7 +27,7 @@ returns-in-Err-StatesPassed c =
     let queries = c.args.queries.now in
     let index = c.loop-server.server-index in
     let server = c.server-item.result in
-    let are : c.items-server-items.result.now ≡ queries.trees.servers = c.items-server-items.ensures ∙ ap (λ (x : Config). x.servers) c.config-config.ensures in
+    let are : c.servers-server-items.result.now ≡ queries.trees.servers = c.servers-server-items.ensures.servers ∙ ap (λ (x : Config). x.servers) c.config-config.ensures in
     subst (IsFirstServerPassed queries.trees queries.rewrites queries.states) (sym c.in_ok-copy-in-Err-StatesPassed.ensures)
     (first_server queries.trees queries.rewrites queries.states index c.loop-server.told server
     (subst (λ (servers : List Server). index < length servers) are c.loop-server-test.true)
@@ -39,7 +39,7 @@ pub returns : goal.returns
 returns c =
     let queries = c.args.queries.now in
     let index = c.loop-server.server-index in
-    let are : c.items-server-items.result.now ≡ queries.trees.servers = c.items-server-items.ensures ∙ ap (λ (x : Config). x.servers) c.config-config.ensures in
+    let are : c.servers-server-items.result.now ≡ queries.trees.servers = c.servers-server-items.ensures.servers ∙ ap (λ (x : Config). x.servers) c.config-config.ensures in
     let long = subst (λ (servers : List Server). length servers ≤ index) are c.loop-server-test.false in
     let so_far = subst (λ (servers : List Server). AreSoFar queries.trees queries.rewrites queries.states (take index servers) c.loop-server.told) are c.loop-server.invariant.so_far in (
       all_told queries.trees queries.rewrites queries.states index c.loop-server.told long so_far,

@@ -17,7 +17,7 @@ new-requires g c =
       covering = is_covered config rewrites;
       queries_are = c.in_ok-graphs.ensures ∙ ap (λ (states : ℕ). limited_to config rewrites states) c.requires.states;
       names_are = record {
-        same = subst (λ (one : Config). AreSame c.in_ok-base.base (ground_of one)) (ap (λ (queries : LimitedQueries). queries.config) c.in_ok-graphs.ensures)
+        same = subst (λ (one : Config). AreSame c.in_ok-base.base (ground_of one)) (c.hosts.ensures ∙ ap (λ (queries : LimitedQueries). queries.config) c.in_ok-graphs.ensures)
             c.in_ok-base.ensures.same;
         order = c.in_ok-base.ensures.order;
       };

@@ -1,4 +1,4 @@
-use Rattle.std.proofs.Common.{ℕ, [], ◌∷◌, ◌∙◌, Some, ap, subst}
+use Rattle.std.proofs.Common.{ℕ, Bor, List, [], ◌∷◌, ◌∙◌, map, Some, ap, subst}
 use Rattle.graph_form.specs.Report.{Subject}
 use Rattle.label_graph.specs.Pairs.{AreSame}
 use Rattle.net_model.specs.declared.config.Config.{Config}
@@ -20,11 +20,13 @@ new-judge-requires g c =
       covering = is_covered config rewrites scope c.labels.ensures.name;
       queries_are = c.in_ok-graphs.ensures ∙ ap (λ (states : ℕ). limited_to config rewrites states) c.requires.states;
       names_are = record {
-        same = subst (λ (one : Config). AreSame c.in_ok-names.names (joined_ground (one ∷ []) (scope ∷ []))) same c.in_ok-names.ensures.same;
+        same = subst (λ (one : Config). AreSame c.in_ok-names.names (joined_ground (one ∷ []) (scope ∷ []))) (c.hosts-hosts.ensures ∙ same)
+            (subst (λ (all : List (Bor Config)). AreSame c.in_ok-names.names (joined_ground (map (λ (hosts : Bor Config). hosts.now) all) (scope ∷ []))) c.from_ref.ensures.value
+            c.in_ok-names.ensures.same);
         order = c.in_ok-names.ensures.order;
       };
       own_are = record {
-        same = subst (λ (one : Config). AreSame c.in_ok-own.own (ground_of one)) same c.in_ok-own.ensures.same;
+        same = subst (λ (one : Config). AreSame c.in_ok-own.own (ground_of one)) (c.hosts-hosts.ensures ∙ same) c.in_ok-own.ensures.same;
         order = c.in_ok-own.ensures.order;
       };
       first_is = c.in_ok-first.ensures;

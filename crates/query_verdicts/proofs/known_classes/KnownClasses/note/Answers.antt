@@ -1,7 +1,6 @@
 use Rattle.std.proofs.Common.{List, ℕ, sym, subst}
 use Rattle.std.specs.Prelude.{Contains, IfSome, Option}
 use Rattle.net_model.specs.declared.class.Class.{Class}
-use Rattle.net_model.specs.declared.class.Class.TheVariants.{Below}
 use Rattle.net_model.specs.Class.{IsClassOf}
 use Rattle.net_model.specs.Reading.{Ground, ground_of}
 use Rattle.label_graph.specs.Pairs.{AreSame}
@@ -26,7 +25,7 @@ returns-in_default-2 c = λ rewrites states are known.
 
 pub returns-in_ok-push : goal.returns-in_ok-push
 returns-in_ok-push c = λ rewrites states are known.
-    let config = c.args.config.now in
+    let config = c.args.hosts.now in
     let name = c.args.name.now in
     let above = c.in-Below.above in
     let same : AreSame c.in-Some.names (ground_of config) =
