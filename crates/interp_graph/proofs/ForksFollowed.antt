@@ -1,15 +1,14 @@
 -- What the branches and arms of followed forks tell, and to which states they go.
-use Rattle.std.proofs.Common.{◌≡◌, ℕ, ◌≤◌, ◌<◌, Bool, true, false, not, List, map, length, refl, sym, ap, ◌∙◌, subst, true≢false, arith}
+use Rattle.std.proofs.Common.{◌≡◌, ℕ, ◌≤◌, ◌<◌, Bool, true, false, not, List, map, length, Option, Some, None, sym, ap, ◌∙◌, subst, true≢false, arith}
 use Rattle.std.specs.Prelude.{Contains}
-use Rattle.std.specs.List.{AllZip, list_any}
-use Rattle.std.proofs.lemmas.Bool.{and_from, and_parts}
+use Rattle.std.specs.List.{AllZip}
 use Rattle.std.proofs.lemmas.Option.{slice_get_within}
 use Rattle.dns_data.specs.RrType.{type_eq}
 use Rattle.dns_data.specs.TypeSet.{has_bit}
 use Rattle.dns_data.specs.declared.rr_type.RrType.{RrType}
 use Rattle.dns_data.specs.declared.rr_type.RrType.TheVariants as rr
 use Rattle.dns_data.proofs.Membership.{each_along, map_has}
-use Rattle.dns_data.proofs.Searches.{any_has, from_any}
+use Rattle.dns_data.proofs.Searches.{any_has}
 use Rattle.net_model.specs.Step as step
 use Rattle.net_model.specs.Step.{Setting, next}
 use Rattle.net_model.specs.declared.walk.Hop.{Hop}
@@ -20,12 +19,13 @@ use Rattle.graph_form.specs.declared.node.Branch.TheVariants.{Go, End}
 use Rattle.zone_lookup.specs.Alike.{AreSplit, HasSome}
 use Rattle.zone_lookup.specs.Steps.{branch_of}
 use Rattle.zone_lookup.specs.declared.steps.Step.{Step}
-use Rattle.zone_lookup.specs.declared.steps.Step.TheVariants as step_as
-use Rattle.interp_graph.specs.Listed.{Adds, ForkGoes, OfOne, StepGoes, but_cname, every}
-use Rattle.interp_graph.specs.Making.{IsArmOf, IsDraft, IsDraftOf, IsFinishedOf, IsNode, TellsStep, TurnGoes, cname_goes, fork_goes_on, goes_on}
-use Rattle.interp_graph.specs.Steps.{AreForks, types_of}
+use Rattle.interp_graph.specs.Listed.{Adds, ForkGoes, OfOne, but_cname, every}
+use Rattle.interp_graph.specs.Making.{IsArmOf, IsDraft, IsEarly, IsEarlyOf, IsFinishedOf, IsNode, TellsStep}
+use Rattle.interp_graph.specs.Steps.{AllAlike, AreForks, AreForksOrAlias, types_of}
 use Rattle.interp_graph.specs.declared.step.Draft.{Draft}
 use Rattle.interp_graph.specs.declared.step.Draft.TheVariants.{Done, Left}
+use Rattle.interp_graph.specs.declared.step.Early.{Early}
+use Rattle.interp_graph.specs.declared.step.Early.TheVariants as early_as
 use Rattle.interp_graph.specs.declared.step.Fork.{Fork}
 use Rattle.interp_graph.proofs.ItemsByNumber.{beside, beside_images, same_images, side_by_side}
 use Rattle.interp_graph.proofs.Listing.{still_listed}
@@ -59,10 +59,11 @@ module _ {Is : State → Type 0} {before after : List State} (adds : Adds Is bef
           inside = λ arm has typed hop to goes. omega (arith, is.inside arm has typed hop to goes, not_fewer);
         }
 
-    -- and so is a draft
-    pub draft_on : (draft : Draft) → IsDraft setting before first among draft state → IsDraft setting after later among draft state
-    draft_on (Done arms) is = node_on arms is
-    draft_on (Left forks) is = is
+  -- and so is what the first turn gives
+  pub early_on : (setting : Setting) (first later : ℕ) → first ≤ later → (early : Early) (state : State) → IsEarly setting before first early state
+      → IsEarly setting after later early state
+  early_on setting first later not_fewer (early_as.Done arms) state is = node_on setting first later not_fewer every state arms is
+  early_on setting first later not_fewer early_as.Alias state is = is
 
 -- ---- a node by its forks
 
@@ -84,26 +85,23 @@ node_of setting states first among state forks arms are told inside =
           let of = beside (IsArmOf states) arms forks arm told has in inside arm of.0 of.1 of.2 typed;
     }
 
--- a step by which walks go to a state goes on
-step_goes : (one : Step) (to : State) → StepGoes (branch_of one) to → goes_on one ≡ true
-step_goes (step_as.Go hop state) to goes = refl
-step_goes (step_as.End hop leaf) to (other, is) = cc
-
--- a branch that leads on tells a step that goes on to a listed state
+-- a branch that leads on tells a step to a listed state
 led_on : (states : List State) (arm : Arm) (fork : Fork) (hop : Hop) (to : ℕ) → IsArmOf states arm fork → Contains arm.branches (Go hop to)
-    → (to < length states) × (list_any goes_on fork.steps ≡ true)
+    → (to < length states) × (state : State) × Contains (map branch_of fork.steps) (step.Go hop state)
 led_on states arm fork hop to is goes =
-    let of = beside (λ b (s : Step). TellsStep states b (branch_of s)) arm.branches fork.steps (Go hop to) is.told goes in
-    (slice_get_within states to of.2.0 of.2.2, any_has goes_on fork.steps of.0 of.1 (step_goes of.0 of.2.0 (hop, of.2.1)))
+    let of = beside (λ b (s : Step). TellsStep states b (branch_of s)) arm.branches fork.steps (Go hop to) is.told goes in (
+      slice_get_within states to of.2.0 of.2.2,
+      of.2.0,
+      subst (Contains (map branch_of fork.steps)) of.2.1 (map_has branch_of fork.steps of.0 of.1),
+    )
 
--- the draft that is made of a state's forks is one of its node, if walks of all types reach the state
-pub draft_made : (setting : Setting) (states : List State) (state : State) (forks : List Fork) (draft : Draft) → AreForks setting state every forks
-    → IsDraftOf states forks draft → IsDraft setting states (length states) every draft state
-draft_made setting states state forks (Done arms) are told =
-    node_of setting states (length states) every state forks arms are told
-    (λ arm fork has is typed hop to goes. (led_on states arm fork hop to is goes).0)
-draft_made setting states state forks (Left left) are (same, stays) =
-    record { are = subst (AreForks setting state every) (sym same) are; stays = ap (list_any cname_goes) same ∙ stays }
+-- what the first turn makes of a state's forks is so
+pub early_made : (setting : Setting) (states : List State) (state : State) (forks : Option (List Fork)) (early : Early) → AreForksOrAlias setting state forks
+    → IsEarlyOf states forks early → IsEarly setting states (length states) early state
+early_made setting states state None early ends same = subst (λ (e : Early). IsEarly setting states (length states) e state) (sym same) ends
+early_made setting states state (Some forks) early are (arms, same, told) =
+    subst (λ (e : Early). IsEarly setting states (length states) e state) (sym same)
+    (node_of setting states (length states) every state forks arms are.0 told (λ arm fork has is typed hop to goes. (led_on states arm fork hop to is goes).0))
 
 -- the arms by a draft are those of a node
 pub node_finished : {Is : State → Type 0} (before after : List State) → Adds Is before after → (setting : Setting) (first : ℕ) (among : RrType → Bool) (state : State)
@@ -113,16 +111,13 @@ node_finished before after adds setting first among state (Done done) arms is sa
 node_finished before after adds setting first among state (Left forks) arms is told =
     node_of setting after first among state forks arms is.are told
     (λ arm fork has so typed hop to goes.
-    absurd (true≢false (sym (any_has cname_goes forks fork has
-    (and_from (has_bit fork.types rr.Cname) (list_any goes_on fork.steps) (ap (λ (types : List Bool). has_bit types rr.Cname) (sym so.types) ∙ typed)
-    (led_on after arm fork hop to so goes).1)) ∙ is.stays)))
+    let bit : has_bit fork.types rr.Cname ≡ true = ap (λ (types : List Bool). has_bit types rr.Cname) (sym so.types) ∙ typed in
+    let on = led_on after arm fork hop to so goes in
+    absurd (is.stays
+    (sym (is.are.split.together rr.Cname) ∙ any_has (λ (set : List Bool). has_bit set rr.Cname) (map types_of forks) fork.types (map_has types_of forks fork has) bit)
+    hop on.1 (subst (λ (branches : List step.Branch). Contains branches (step.Go hop on.1)) (is.are.tell fork has rr.Cname bit) on.2)))
 
 -- ---- to which states walks go on
-
--- where walks go on by none of the forks, they come to no state
-pub none_goes : (forks : List Fork) → list_any fork_goes_on forks ≡ false → (to : State) → OfOne ForkGoes forks to → TurnGoes forks to
-none_goes forks none to (fork, has, (one, there, goes)) =
-    absurd (true≢false (sym (any_has fork_goes_on forks fork has (any_has goes_on fork.steps one there (step_goes one to goes))) ∙ none))
 
 module _ (setting : Setting) (state : State) (among : RrType → Bool) (forks : List Fork) (are : AreForks setting state among forks) where
   -- a fork has a type, and with it walks go on from the state to those to which the fork goes
@@ -137,26 +132,9 @@ module _ (setting : Setting) (state : State) (among : RrType → Bool) (forks : 
             (subst (λ (branches : List step.Branch). Contains branches (branch_of one)) (are.tell fork has some.0 some.1) (map_has branch_of fork.steps one there)),
       )
 
-  -- where walks of type CNAME go on, those of each type go on alike
-  pub all_go : list_any cname_goes forks ≡ true → (to : State) → OfOne ForkGoes forks to → (rtype : RrType)
-      → (hop : Hop) × Contains (next setting rtype state) (step.Go hop to)
-  all_go turns to (fork, has, goes) rtype =
-      let (by, by_has, by_goes) = from_any cname_goes forks turns in
-      let parts = and_parts (has_bit by.types rr.Cname) (list_any goes_on by.steps) by_goes in
-      let (one, there, goes_one) = from_any goes_on by.steps parts.1 in
-      let (state_by, hop_by, is_by) = gone one goes_one in
-      let goes_by : Contains (next setting rr.Cname state) (step.Go hop_by state_by) =
-      subst (Contains (next setting rr.Cname state)) is_by
-      (subst (λ (branches : List step.Branch). Contains branches (branch_of one)) (are.tell by by_has rr.Cname parts.0) (map_has branch_of by.steps one there)) in
-      let (u, bit, hop, on) = goes_with fork to has goes in (
-        hop,
-        subst (λ (branches : List step.Branch). Contains branches (step.Go hop to))
-            (goes_alike setting state hop_by state_by rr.Cname u (λ _. refl) goes_by ∙ sym (goes_alike setting state hop_by state_by rr.Cname rtype (λ _. refl) goes_by)) on,
-      )
-    where
-      gone : (one : Step) → goes_on one ≡ true → (to : State) × (hop : Hop) × (branch_of one ≡ step.Go hop to)
-      gone (step_as.Go hop to) goes = (to, hop, refl)
-      gone (step_as.End hop leaf) goes = absurd (true≢false (sym goes))
+  -- where walks go on alike with all types, they come with each type to the states to which the forks go
+  pub all_go : AllAlike setting state → (to : State) → OfOne ForkGoes forks to → (rtype : RrType) → (hop : Hop) × Contains (next setting rtype state) (step.Go hop to)
+  all_go alike to (fork, has, goes) rtype = let (u, bit, hop, on) = goes_with fork to has goes in (hop, alike u rtype hop to on)
 
   -- where walks go on, those of each type but CNAME go on alike
   pub rest_go : (to : State) → OfOne ForkGoes forks to → (rtype : RrType) → but_cname rtype ≡ true

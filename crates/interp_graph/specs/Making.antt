@@ -1,6 +1,6 @@
 -- The nodes of a graph in the making. The contracts of inner calls alone cite it.
-use Rattle.std.specs.Prelude.{◌≡◌, ℕ, zero, suc, ◌<◌, ◌≤◌, Bool, true, false, ◌&&◌, List, [], ◌∷◌, length, map, Option, Some, None, Contains, slice_get}
-use Rattle.std.specs.List.{AllZip, list_any}
+use Rattle.std.specs.Prelude.{◌≡◌, ℕ, zero, suc, ◌<◌, ◌≤◌, Bool, true, List, [], ◌∷◌, length, map, Option, Some, None, Contains, slice_get}
+use Rattle.std.specs.List.{AllZip}
 use Rattle.dns_data.specs.TypeSet.{has_bit}
 use Rattle.dns_data.specs.declared.rr_type.RrType.{RrType}
 use Rattle.dns_data.specs.declared.rr_type.RrType.TheVariants as rr
@@ -14,12 +14,12 @@ use Rattle.graph_form.specs.declared.node.Branch.TheVariants.{Go, End}
 use Rattle.graph_form.specs.declared.node.Node.{Node}
 use Rattle.zone_lookup.specs.Alike.{AreSplit}
 use Rattle.zone_lookup.specs.Steps.{branch_of}
-use Rattle.zone_lookup.specs.declared.steps.Step.{Step}
-use Rattle.zone_lookup.specs.declared.steps.Step.TheVariants as step_as
 use Rattle.interp_graph.specs.Listed.{OfOne, ForkGoes, every, but_cname}
-use Rattle.interp_graph.specs.Steps.{AreForks}
+use Rattle.interp_graph.specs.Steps.{AreForks, CnameEnds}
 use Rattle.interp_graph.specs.declared.step.Draft.{Draft}
 use Rattle.interp_graph.specs.declared.step.Draft.TheVariants.{Done, Left}
+use Rattle.interp_graph.specs.declared.step.Early.{Early}
+use Rattle.interp_graph.specs.declared.step.Early.TheVariants as early_as
 use Rattle.interp_graph.specs.declared.step.Fork.{Fork}
 
 -- a branch tells a branch of a state: where that goes on to a state, it leads to this state's number; and else it is the
@@ -33,9 +33,9 @@ pub record IsArmOf (states : List State) (arm : Arm) (fork : Fork) : Type 0 wher
   pub types : arm.types ≡ fork.types
   pub told : AllZip (λ branch one. TellsStep states branch (branch_of one)) arm.branches fork.steps
 
--- These are the arms of a state's node. No two of them have the same type, and together they have the types with which walks
--- reach the state. For each of its types an arm tells the state's steps, in order. Walks of all types reach the states with
--- the numbers below `first`, and an arm with type CNAME leads to such states alone.
+-- These are the arms of a state's node. No two of them have the same type, and together they have the types with which
+-- walks reach the state. For each of its types an arm tells the state's steps, in order. Walks of all types reach the
+-- states with the numbers below `first`, and an arm with type CNAME leads to such states alone.
 pub record IsNode (setting : Setting) (states : List State) (first : ℕ) (among : RrType → Bool) (arms : List Arm) (state : State) : Type 0 where
   pub split : AreSplit among (map (λ arm. arm.types) arms)
   pub tell : (arm : Arm) → Contains arms arm → (rtype : RrType) → has_bit arm.types rtype ≡ true
@@ -45,23 +45,15 @@ pub record IsNode (setting : Setting) (states : List State) (first : ℕ) (among
 
 -- ---- drafts
 
--- the step goes on to a state
-abbrev pub goes_on : Step → Bool
-goes_on (step_as.Go hop state) = true
-goes_on (step_as.End hop leaf) = false
-
--- walks go on by the fork
-abbrev pub fork_goes_on : Fork → Bool
-fork_goes_on fork = list_any goes_on fork.steps
-
--- walks of type CNAME go on by the fork
-abbrev pub cname_goes : Fork → Bool
-cname_goes fork = has_bit fork.types rr.Cname && list_any goes_on fork.steps
+-- what the first turn gives for a state is the node's arms for all types; or walks of type CNAME end at the state
+abbrev pub IsEarly : Setting → List State → ℕ → Early → State → Type 0
+IsEarly setting states first (early_as.Done arms) state = IsNode setting states first every arms state
+IsEarly setting states first early_as.Alias state = CnameEnds setting state
 
 -- the forks of a state for some types, by none of which walks of type CNAME go on
 pub record AreLeft (setting : Setting) (among : RrType → Bool) (forks : List Fork) (state : State) : Type 0 where
   pub are : AreForks setting state among forks
-  pub stays : list_any cname_goes forks ≡ false
+  pub stays : among rr.Cname ≡ true → CnameEnds setting state
 
 -- the draft of a state's node
 abbrev pub IsDraft : Setting → List State → ℕ → (RrType → Bool) → Draft → State → Type 0
@@ -80,10 +72,10 @@ pub record StandsBeside {A : Type 0} (Is : A → State → Type 0) (items : List
 abbrev pub AreBeside : {A : Type 0} → (ℕ → A → State → Type 0) → List A → List State → Type 0
 AreBeside Is items states = (at : ℕ) → at < length items → StandsBeside (Is at) items states at
 
--- beside each state stands the draft of its node, with all types: walks of all types reach each of the states
-pub record AreDrafts (setting : Setting) (states : List State) (drafts : List Draft) : Type 0 where
-  pub all : length states ≤ length drafts
-  pub beside : AreBeside (λ at. IsDraft setting states (length states) every) drafts states
+-- beside each state stands what the first turn gives for it: walks of all types reach each of the states
+pub record AreEarly (setting : Setting) (states : List State) (early : List Early) : Type 0 where
+  pub all : length states ≤ length early
+  pub beside : AreBeside (λ at. IsEarly setting states (length states)) early states
 
 -- Of states in a row walks of all types reach the first ones, which are so many, and walks of all types but CNAME reach the
 -- others. These are the types with which walks reach the state at the head of the row.
@@ -114,19 +106,22 @@ nodes_of (state ∷ states) (arms ∷ all) = record { state = state; arms = arms
 
 -- ---- single steps
 
--- walks go on by the forks to the state, those of type CNAME by one of them
-abbrev pub TurnGoes : List Fork → State → Type 0
-TurnGoes forks to = (list_any cname_goes forks ≡ true) × OfOne ForkGoes forks to
+-- walks go on to the state by the forks, if there are some
+abbrev pub EarlyGoes : Option (List Fork) → State → Type 0
+EarlyGoes None to = ⊥
+EarlyGoes (Some forks) to = OfOne ForkGoes forks to
 
--- the draft has the arms that the forks tell, or it is the forks, by which no walk of type CNAME goes on
-abbrev pub IsDraftOf : List State → List Fork → Draft → Type 0
-IsDraftOf states forks (Done arms) = AllZip (IsArmOf states) arms forks
-IsDraftOf states forks (Left left) = (left ≡ forks) × (list_any cname_goes forks ≡ false)
+-- these are the arms that the forks tell, or there are neither
+abbrev pub IsEarlyOf : List State → Option (List Fork) → Early → Type 0
+IsEarlyOf states None early = early ≡ early_as.Alias
+IsEarlyOf states (Some forks) early = (arms : List Arm) × (early ≡ early_as.Done arms) × AllZip (IsArmOf states) arms forks
 
--- the draft is the given one, or the forks of the state for these types
-abbrev pub IsDraftOr : Setting → State → List Bool → Option Draft → Draft → Type 0
-IsDraftOr setting state types (Some given) draft = draft ≡ given
-IsDraftOr setting state types None draft = (forks : List Fork) × (draft ≡ Left forks) × AreForks setting state (has_bit types) forks
+-- the draft is the arms that the first turn gives; or the forks of the state, for all types where it gives none, and for
+-- these types where the first turn didn't visit the state
+abbrev pub IsDraftBy : Setting → State → List Bool → Option Early → Draft → Type 0
+IsDraftBy setting state types (Some (early_as.Done arms)) draft = draft ≡ Done arms
+IsDraftBy setting state types (Some early_as.Alias) draft = (forks : List Fork) × (draft ≡ Left forks) × AreForks setting state every forks
+IsDraftBy setting state types None draft = (forks : List Fork) × (draft ≡ Left forks) × AreForks setting state (has_bit types) forks
 
 -- the arms are those of the draft, or those that its forks tell
 abbrev pub IsFinishedOf : List State → Draft → List Arm → Type 0

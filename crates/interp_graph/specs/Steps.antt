@@ -1,13 +1,18 @@
 -- What a state leads to, for some types at once. The contracts of inner calls alone cite it.
-use Rattle.std.specs.Prelude.{◌≡◌, Bool, true, List, map, option_map, Contains}
+use Rattle.std.specs.Prelude.{◌≡◌, Bool, true, false, List, map, Option, Some, None, option_map, Contains}
 use Rattle.dns_data.specs.TypeSet.{has_bit}
 use Rattle.dns_data.specs.declared.rr_type.RrType.{RrType}
+use Rattle.dns_data.specs.declared.rr_type.RrType.TheVariants as rr
 use Rattle.net_model.specs.Nearest.{nearest_of}
-use Rattle.net_model.specs.Step.{Setting, next}
+use Rattle.net_model.specs.Step.{Setting, Go, next}
 use Rattle.net_model.specs.declared.config.Config.{Config}
+use Rattle.net_model.specs.declared.walk.Hop.{Hop}
 use Rattle.net_model.specs.declared.walk.State.{State}
 use Rattle.zone_lookup.specs.Alike.{AreSplit}
 use Rattle.zone_lookup.specs.Steps.{branch_of}
+use Rattle.zone_lookup.specs.declared.reply.Reply.{Reply}
+use Rattle.zone_lookup.specs.declared.reply.Reply.TheVariants.{Alias}
+use Rattle.interp_graph.specs.Listed.{every}
 use Rattle.interp_graph.specs.declared.step.Fork.{Fork}
 
 -- the steps of a fork are those of the state for each of its types
@@ -31,3 +36,24 @@ IsLocated config state = state.zone ≡ option_map (λ zone. zone.origin) (neare
 -- so have all of these states
 abbrev pub AreLocated : Config → List State → Type 0
 AreLocated config states = (state : State) → Contains states state → IsLocated config state
+
+-- ---- the first turn
+
+-- the server replies that the name is an alias
+abbrev pub is_alias : Reply → Bool
+is_alias (Alias tree owner target) = true
+is_alias other = false
+
+-- where walks go on from the state with one type, they go on alike with each
+abbrev pub AllAlike : Setting → State → Type 0
+AllAlike setting state =
+    (some rtype : RrType) (hop : Hop) (to : State) → Contains (next setting some state) (Go hop to) → Contains (next setting rtype state) (Go hop to)
+
+-- walks of type CNAME end at the state
+abbrev pub CnameEnds : Setting → State → Type 0
+CnameEnds setting state = (hop : Hop) (to : State) → Contains (next setting rr.Cname state) (Go hop to) → ⊥
+
+-- the forks of a state for all types, with which walks go on alike; or none where those of type CNAME end
+abbrev pub AreForksOrAlias : Setting → State → Option (List Fork) → Type 0
+AreForksOrAlias setting state (Some forks) = AreForks setting state every forks × AllAlike setting state
+AreForksOrAlias setting state None = CnameEnds setting state

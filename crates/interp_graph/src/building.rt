@@ -47,9 +47,9 @@ pub fn build(
     let mut states = KeySet::new(alloc);
     let most = most_of_all(limit);
     let starts = numbered(alloc, &mut states, most, begin)?;
-    let drafts = follow_all(alloc, &walker, &mut states, most)?;
+    let early = follow_all(alloc, &walker, &mut states, most)?;
     let most = most_with_rest(limit, states.len() as u32);
-    let arms = follow_rest(alloc, &walker, &mut states, most, drafts)?;
+    let arms = follow_rest(alloc, &walker, &mut states, most, early)?;
     Ok(graph_of(alloc, states, arms, starts)?)
 }
 

@@ -72,7 +72,8 @@ fn branch(alloc: Global, states: &mut KeySet, most: u32, step: Step) -> Result<B
     }
 }
 
-/// The number of a state. A new one gets the next number; it is `StatesPassed` where there are more than `most` states then.
+/// The number of a state. A new one gets the next number; it is `StatesPassed` where there are more than `most` states
+/// then.
 pub(crate) fn reach(
     alloc: Global,
     states: &mut KeySet,

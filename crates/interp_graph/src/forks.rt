@@ -6,7 +6,7 @@ ghost use Rattle.dns_data.specs.TypeSet.{has_bit};
 ghost use Rattle.net_model.specs.Nearest.{nearest_of};
 ghost use Rattle.zone_lookup.specs.Alike.{GoAlike, HasSome};
 ghost use Rattle.zone_lookup.specs.Reply.{IsReply};
-ghost use Rattle.interp_graph.specs.Steps.{AreForks, IsFork, IsLocated};
+ghost use Rattle.interp_graph.specs.Steps.{AreForks, AreForksOrAlias, IsFork, IsLocated, is_alias};
 
 use crate::step::Fork;
 use dns_data::{List, NoMemory, TypeSet};
@@ -14,6 +14,56 @@ use net_model::State;
 use std::alloc::Global;
 use zone_lookup::{Reply, Walker, next_steps, reply_in, split_by};
 use zone_tree::Tree;
+
+/// What a state leads to for each type, where walks of all types go on alike or end; or `None` where its name is an alias:
+/// walks of type CNAME end there, and those of the other types go on.
+pub(crate) fn early_forks(
+    alloc: Global,
+    walker: &Walker<'_, '_>,
+    state: &State,
+) -> Result<Option<List<Fork>>, NoMemory>
+    requires { IsLocated walker.now.config state.now }
+    ensures { IfOk result (AreForksOrAlias walker.now state.now) }
+{
+    match zone_for(walker, state) {
+        Some(tree) => {
+            let reply = reply_in(tree, &state.name);
+            unless_alias(alloc, walker, state, &reply)
+        }
+        None => unless_alias(alloc, walker, state, &Reply::Outside),
+    }
+}
+
+/// The same, by what the state's server replies to its name.
+fn unless_alias(
+    alloc: Global,
+    walker: &Walker<'_, '_>,
+    state: &State,
+    reply: &Reply<'_, '_>,
+) -> Result<Option<List<Fork>>, NoMemory>
+    requires { IsReply walker.now.config state.now.server state.now.name reply.now }
+    ensures { IfOk result (AreForksOrAlias walker.now state.now) }
+{
+    if is_alias(reply) {
+        return Ok(None);
+    }
+    let forks = forks_by(alloc, walker, state, reply, TypeSet::all())?;
+    Ok(Some(forks))
+}
+
+/// Whether a server replies that the name is an alias.
+fn is_alias(reply: &Reply<'_, '_>) -> bool
+    ensures { result ≡ is_alias reply.now }
+{
+    match *reply {
+        Reply::Outside => false,
+        Reply::Refers(_, _) => false,
+        Reply::Redirects(_, _, _) => false,
+        Reply::Alias(_, _, _) => true,
+        Reply::Records(_, _) => false,
+        Reply::Nothing(_) => false,
+    }
+}
 
 /// What a state leads to for each of these types.
 pub(crate) fn forks(

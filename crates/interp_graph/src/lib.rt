@@ -6,8 +6,9 @@
 //! gives the graph of the walks that follow fewer servers. Where there are more pairs than are allowed, `build` says so.
 //!
 //! Costs: a state is looked up once, for all types that come to it: first those that all types reach are visited, and then
-//! those that all but CNAME reach. A few states are looked through one by one, of more each is found by its hash. A state is
-//! made once, and goes from the key by which it is found into the graph. No zone is copied, and no list of walks is made.
+//! those that all but CNAME reach. Only the name of an alias is looked up in both turns, so that nothing of it is held
+//! between them. A few states are looked through one by one, of more each is found by its hash. A state is made once, and
+//! goes from the key by which it is found into the graph. No zone is copied, and no list of walks is made.
 //!
 //! `restrict` looks nothing up and hashes nothing. It passes over the nodes of the given graph until none gains a type,
 //! and then copies each node's state and what is left of its arms. Nodes are numbered as they are found, so that mostly

@@ -11,7 +11,15 @@ pub(crate) struct Fork {
     pub steps: List<Step>,
 }
 
-/// Of a node in the making its arms, or the forks of its state, which are still to be followed.
+/// What the first turn gives for a state: the arms of its node; or that its name is an alias. The forks of an alias are made
+/// in the second turn: where each leads to all top servers, they aren't held for each of as many states.
+#[derive(Debug, Drop)]
+pub(crate) enum Early {
+    Done(List<Arm>),
+    Alias,
+}
+
+/// Of a node in the second turn its arms, or the forks of its state, which are still to be followed.
 #[derive(Debug, Drop)]
 pub(crate) enum Draft {
     Done(List<Arm>),

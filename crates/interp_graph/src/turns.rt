@@ -2,133 +2,87 @@
 //!
 //! Only an alias sends types different ways: walks of type CNAME end there, and those of the other types go on.
 
-ghost use Rattle.std.specs.Prelude.{◌≡◌, ◌≤◌, false, length, IfOk, OnOk, IsErrOf};
-ghost use Rattle.std.specs.List.{AllZip, IsDistinct, list_any};
+ghost use Rattle.std.specs.Prelude.{◌≡◌, ◌≤◌, length, IfOk, OnOk, IsErrOf};
+ghost use Rattle.std.specs.List.{IsDistinct};
 ghost use Rattle.interp_graph.specs.StateKey.{state_eq};
-ghost use Rattle.interp_graph.specs.Listed.{ComesFrom, Lists, OfOne, Passes, DraftGoes, ForkGoes, every, but_cname};
-ghost use Rattle.interp_graph.specs.Making.{AreDrafts, AreNodes, IsDraftOf, IsDraftOr, IsFinishedOf, TurnGoes, cname_goes, fork_goes_on, goes_on};
+ghost use Rattle.interp_graph.specs.Listed.{ComesFrom, DraftGoes, Lists, Passes, but_cname, every};
+ghost use Rattle.interp_graph.specs.Making.{AreEarly, AreNodes, EarlyGoes, IsDraftBy, IsEarlyOf, IsFinishedOf};
 ghost use Rattle.interp_graph.specs.Steps.{AreLocated, IsLocated};
 
 use crate::fault::GraphFault;
 use crate::following::arms;
-use crate::forks::forks;
+use crate::forks::{early_forks, forks};
 use crate::key_set::KeySet;
-use crate::step::{Draft, Fork};
+use crate::step::{Draft, Early, Fork};
 use dns_data::{List, NoMemory, RrType, TypeSet};
 use graph_form::Arm;
 use net_model::State;
 use std::alloc::Global;
-use zone_lookup::{Step, Walker};
+use zone_lookup::Walker;
 
-/// Drafts of nodes for the states that are listed, and for those to which walks of all types go on from them. It is
-/// `StatesPassed` where these are more than `most`.
+/// What the first turn gives for the states that are listed, and for those to which walks of all types go on from them. It
+/// is `StatesPassed` where these are more than `most`.
 pub(crate) fn follow_all(
     alloc: Global,
     walker: &Walker<'_, '_>,
     states: &mut KeySet,
     most: u32,
-) -> Result<List<Draft>, GraphFault>
+) -> Result<List<Early>, GraphFault>
     requires few { length states.old ≤ most }
     requires located { AreLocated walker.now.config states.old }
     ensures lists { OnOk result (Lists (ComesFrom walker.now every states.old) most states.old states.new) }
-    ensures drafts { IfOk result (λ drafts. AreDrafts walker.now states.new drafts) }
+    ensures early { IfOk result (AreEarly walker.now states.new) }
     ensures passed { IsErrOf result GraphFault.StatesPassed → Passes (ComesFrom walker.now every states.old) most states.old }
 {
-    let mut drafts = List::new(alloc);
-    while drafts.len() < states.len() {
-        let state = states.key(drafts.len()).state();
-        let forks = forks(alloc, walker, state, TypeSet::all())?;
-        drafts.push(draft(alloc, states, most, forks)?)?;
+    let mut all = List::new(alloc);
+    while all.len() < states.len() {
+        let state = states.key(all.len()).state();
+        let forks = early_forks(alloc, walker, state)?;
+        all.push(early_arms(alloc, states, most, forks)?)?;
     }
-    Ok(drafts)
+    Ok(all)
 }
 
-/// The draft of a state's node by the state's forks. They are followed where walks of type CNAME go on, and so those of all
-/// types with them; and where all end.
-fn draft(
+/// What the first turn gives for a state by its forks, or for an alias where there are none.
+fn early_arms(
     alloc: Global,
     states: &mut KeySet,
     most: u32,
-    forks: List<Fork>,
-) -> Result<Draft, GraphFault>
+    forks: Option<List<Fork>>,
+) -> Result<Early, GraphFault>
     requires { length states.old ≤ most }
-    ensures lists { OnOk result (Lists (TurnGoes forks) most states.old states.new) }
-    ensures draft { IfOk result (λ draft. IsDraftOf states.new forks draft) }
-    ensures passed { IsErrOf result GraphFault.StatesPassed → Passes (TurnGoes forks) most states.old }
+    ensures lists { OnOk result (Lists (EarlyGoes forks) most states.old states.new) }
+    ensures early { IfOk result (IsEarlyOf states.new forks) }
+    ensures passed { IsErrOf result GraphFault.StatesPassed → Passes (EarlyGoes forks) most states.old }
 {
-    if some_cname_goes(forks.items()) {
-        Ok(Draft::Done(arms(alloc, states, most, forks)?))
-    } else if some_goes(forks.items()) {
-        Ok(Draft::Left(forks))
-    } else {
-        ended(alloc, states, most, forks)
+    match forks {
+        Some(forks) => {
+            let arms = arms(alloc, states, most, forks)?;
+            Ok(Early::Done(arms))
+        }
+        None => Ok(Early::Alias),
     }
 }
 
-/// The draft of a state's node by forks by which no walk goes on.
-fn ended(
-    alloc: Global,
-    states: &mut KeySet,
-    most: u32,
-    forks: List<Fork>,
-) -> Result<Draft, GraphFault>
-    requires few { length states.old ≤ most }
-    requires end { list_any fork_goes_on forks ≡ false }
-    ensures lists { OnOk result (Lists (TurnGoes forks) most states.old states.new) }
-    ensures draft { IfOk result (λ draft. IsDraftOf states.new forks draft) }
-    ensures passed { IsErrOf result GraphFault.StatesPassed → Passes (TurnGoes forks) most states.old }
-{
-    let arms = arms(alloc, states, most, forks)?;
-    Ok(Draft::Done(arms))
-}
-
-/// Whether walks go on by one of the forks.
-fn some_goes(forks: &[Fork]) -> bool
-    ensures { result ≡ list_any fork_goes_on forks.now }
-{
-    forks.iter().any(|fork| some_goes_on(fork.steps.items()))
-}
-
-/// Whether walks of type CNAME go on by one of the forks.
-fn some_cname_goes(forks: &[Fork]) -> bool
-    ensures { result ≡ list_any cname_goes forks.now }
-{
-    forks.iter().any(|fork| cname_goes(fork))
-}
-
-/// Whether walks of type CNAME go on by the fork.
-fn cname_goes(fork: &Fork) -> bool
-    ensures { result ≡ cname_goes fork.now }
-{
-    fork.types.has(RrType::Cname) && some_goes_on(fork.steps.items())
-}
-
-/// Whether one of the steps goes on to a state.
-fn some_goes_on(steps: &[Step]) -> bool
-    ensures { result ≡ list_any goes_on steps.now }
-{
-    steps.iter().any(|step| matches!(step, Step::Go(_, _)))
-}
-
-/// The arms of each state's node: of the states that are listed by their drafts, and of those to which walks of all types
-/// but CNAME go on from them. It is `StatesPassed` where these are more than `most` together.
+/// The arms of each state's node: of the states that are listed by what the first turn gives for them, and of those to
+/// which walks of all types but CNAME go on from them. It is `StatesPassed` where these are more than `most` together.
 pub(crate) fn follow_rest(
     alloc: Global,
     walker: &Walker<'_, '_>,
     states: &mut KeySet,
     most: u32,
-    drafts: List<Draft>,
+    early: List<Early>,
 ) -> Result<List<List<Arm>>, GraphFault>
     requires few { length states.old ≤ most }
     requires located { AreLocated walker.now.config states.old }
-    requires drafts { AreDrafts walker.now states.old drafts }
+    requires early { AreEarly walker.now states.old early }
     ensures lists { OnOk result (Lists (ComesFrom walker.now but_cname states.old) most states.old states.new) }
     ensures nodes { IfOk result (λ arms. AreNodes walker.now states.new (length states.old) arms) }
     ensures once { OnOk result (IsDistinct state_eq states.new) }
     ensures passed { IsErrOf result GraphFault.StatesPassed → Passes (ComesFrom walker.now but_cname states.old) most states.old }
 {
     let types = TypeSet::all().minus(TypeSet::one(RrType::Cname));
-    let mut left = drafts.into_iter();
+    let mut left = early.into_iter();
     let mut nodes = List::new(alloc);
     while nodes.len() < states.len() {
         let state = states.key(nodes.len()).state();
@@ -138,19 +92,21 @@ pub(crate) fn follow_rest(
     Ok(nodes)
 }
 
-/// The given draft of a state's node, or that with the state's forks for these types, where none is given.
+/// The draft of a state's node by what the first turn gives for it; or where that didn't visit the state, the state's forks
+/// for these types.
 fn draft_or_forks(
     alloc: Global,
     walker: &Walker<'_, '_>,
     state: &State,
     types: TypeSet,
-    given: Option<Draft>,
+    given: Option<Early>,
 ) -> Result<Draft, NoMemory>
     requires { IsLocated walker.now.config state.now }
-    ensures { IfOk result (IsDraftOr walker.now state.now types given) }
+    ensures { IfOk result (IsDraftBy walker.now state.now types given) }
 {
     match given {
-        Some(draft) => Ok(draft),
+        Some(Early::Done(arms)) => Ok(Draft::Done(arms)),
+        Some(Early::Alias) => Ok(Draft::Left(forks(alloc, walker, state, TypeSet::all())?)),
         None => Ok(Draft::Left(forks(alloc, walker, state, types)?)),
     }
 }

@@ -28,7 +28,7 @@ follow_rest-requires-clause-located c =
     (started_located c.following_all-walker.result c.in_ok-begin.begin c.new-states.result c.numbered.new.states c.new-states.ensures
     (begun_located c.args.hosts.now c.args.rewrites (whole c.args.name.now) c.following_all-walker.result c.following_all-walker.ensures c.in_ok-begin.begin c.in_ok-begin.ensures)
     c.in_ok-starts.ensures.lists.adds)
-    c.in_ok-drafts.ensures.lists.adds
+    c.in_ok-early.ensures.lists.adds
 
 pub returns-in_err-starts-clause-passed : goal.returns-in_err-starts-clause-passed
 returns-in_err-starts-clause-passed c = λ is.
@@ -36,16 +36,16 @@ returns-in_err-starts-clause-passed c = λ is.
     first_passed c.args.hosts.now c.args.rewrites (whole c.args.name.now) c.following_all-walker.ensures c.in_ok-begin.ensures c.args.limit
     c.most_of_all-most.ensures.passed passes (started_come c.following_all-walker.result c.new-states.ensures passes.adds)
 
-pub returns-in_err-drafts-clause-passed : goal.returns-in_err-drafts-clause-passed
-returns-in_err-drafts-clause-passed c = λ is.
-    let passes = c.in_err-drafts.ensures.passed (passed_on c.from_residual-in_err-drafts.result c.in_err-drafts.field-0.0 _ c.from_residual-in_err-drafts.ensures.1 is _ refl) in
+pub returns-in_err-early-clause-passed : goal.returns-in_err-early-clause-passed
+returns-in_err-early-clause-passed c = λ is.
+    let passes = c.in_err-early.ensures.passed (passed_on c.from_residual-in_err-early.result c.in_err-early.field-0.0 _ c.from_residual-in_err-early.ensures.1 is _ refl) in
     first_passed c.args.hosts.now c.args.rewrites (whole c.args.name.now) c.following_all-walker.ensures c.in_ok-begin.ensures c.args.limit
     c.most_of_all-most.ensures.passed passes (first_come c.following_all-walker.result c.new-states.ensures c.in_ok-starts.ensures.lists.adds passes.adds)
 
 pub returns-in_err-arms-clause-passed : goal.returns-in_err-arms-clause-passed
 returns-in_err-arms-clause-passed c = λ is.
     rest_passed c.args.hosts.now c.args.rewrites (whole c.args.name.now) c.following_all-walker.ensures c.in_ok-begin.ensures c.new-states.ensures
-    c.in_ok-starts.ensures.lists.adds c.in_ok-drafts.ensures.lists.adds c.args.limit
+    c.in_ok-starts.ensures.lists.adds c.in_ok-early.ensures.lists.adds c.args.limit
     (λ many more. omega (arith, c.most_with_rest-most.ensures.passed many more, c.len.ensures.many))
     (c.in_err-arms.ensures.passed (passed_on c.from_residual-in_err-arms.result c.in_err-arms.field-0.0 _ c.from_residual-in_err-arms.ensures.1 is _ refl))
 
@@ -56,7 +56,7 @@ graph_of-requires-clause-nodes c =
 pub graph_of-requires-clause-pairs : goal.graph_of-requires-clause-pairs
 graph_of-requires-clause-pairs c =
     let few = built_pairs c.args.hosts.now c.args.rewrites (whole c.args.name.now) c.following_all-walker.ensures c.in_ok-begin.ensures c.new-states.ensures
-    c.in_ok-starts.ensures.lists.adds c.in_ok-drafts.ensures.lists.adds c.in_ok-arms.ensures.lists.adds c.in_ok-arms.ensures.once c.in_ok-arms.ensures.nodes c.in_ok-starts.starts c.in_ok-starts.ensures.told c.args.limit
+    c.in_ok-starts.ensures.lists.adds c.in_ok-early.ensures.lists.adds c.in_ok-arms.ensures.lists.adds c.in_ok-arms.ensures.once c.in_ok-arms.ensures.nodes c.in_ok-starts.starts c.in_ok-starts.ensures.told c.args.limit
     (omega (arith, c.in_ok-arms.ensures.lists.few, c.most_with_rest-most.ensures.within, c.len.ensures.many)) in
     omega (arith, few, c.ranges.limit.fits)
 
@@ -64,18 +64,18 @@ pub returns-clause-graph : goal.returns-clause-graph
 returns-clause-graph c =
     subst (IsGraphOf (following c.args.hosts.now c.args.rewrites (server_names c.args.hosts.now)) (whole c.args.name.now)) (sym c.in_ok-graph_of.ensures)
     (built_graph c.args.hosts.now c.args.rewrites (whole c.args.name.now) c.following_all-walker.ensures c.in_ok-begin.ensures c.new-states.ensures
-    c.in_ok-starts.ensures.lists.adds c.in_ok-drafts.ensures.lists.adds c.in_ok-arms.ensures.lists.adds c.in_ok-arms.ensures.once c.in_ok-arms.ensures.nodes c.in_ok-starts.starts c.in_ok-starts.ensures.told)
+    c.in_ok-starts.ensures.lists.adds c.in_ok-early.ensures.lists.adds c.in_ok-arms.ensures.lists.adds c.in_ok-arms.ensures.once c.in_ok-arms.ensures.nodes c.in_ok-starts.starts c.in_ok-starts.ensures.told)
 
 pub returns-clause-exact : goal.returns-clause-exact
 returns-clause-exact c =
     subst (IsExact c.args.hosts.now c.args.rewrites (whole c.args.name.now)) (sym c.in_ok-graph_of.ensures)
     (built_exact c.args.hosts.now c.args.rewrites (whole c.args.name.now) c.following_all-walker.ensures c.in_ok-begin.ensures c.new-states.ensures
-    c.in_ok-starts.ensures.lists.adds c.in_ok-drafts.ensures.lists.adds c.in_ok-arms.ensures.lists.adds c.in_ok-arms.ensures.once c.in_ok-arms.ensures.nodes c.in_ok-starts.starts c.in_ok-starts.ensures.told)
+    c.in_ok-starts.ensures.lists.adds c.in_ok-early.ensures.lists.adds c.in_ok-arms.ensures.lists.adds c.in_ok-arms.ensures.once c.in_ok-arms.ensures.nodes c.in_ok-starts.starts c.in_ok-starts.ensures.told)
 
 pub returns-clause-pairs : goal.returns-clause-pairs
 returns-clause-pairs c =
     let few = built_pairs c.args.hosts.now c.args.rewrites (whole c.args.name.now) c.following_all-walker.ensures c.in_ok-begin.ensures c.new-states.ensures
-    c.in_ok-starts.ensures.lists.adds c.in_ok-drafts.ensures.lists.adds c.in_ok-arms.ensures.lists.adds c.in_ok-arms.ensures.once c.in_ok-arms.ensures.nodes c.in_ok-starts.starts c.in_ok-starts.ensures.told c.args.limit
+    c.in_ok-starts.ensures.lists.adds c.in_ok-early.ensures.lists.adds c.in_ok-arms.ensures.lists.adds c.in_ok-arms.ensures.once c.in_ok-arms.ensures.nodes c.in_ok-starts.starts c.in_ok-starts.ensures.told c.args.limit
     (omega (arith, c.in_ok-arms.ensures.lists.few, c.most_with_rest-most.ensures.within, c.len.ensures.many)) in
     omega (arith, few, ap (λ (graph : PlainGraph). length (pairs_of graph)) c.in_ok-graph_of.ensures)
 

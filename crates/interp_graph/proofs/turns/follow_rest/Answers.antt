@@ -3,7 +3,7 @@ use Rattle.std.specs.Prelude.{slice_get}
 use Rattle.dns_data.specs.declared.rr_type.RrType.TheVariants as rr
 use Rattle.graph_form.proofs.Places.{item_there}
 use Rattle.interp_graph.specs.Listed.{but_cname}
-use Rattle.interp_graph.specs.declared.step.Draft.{Draft}
+use Rattle.interp_graph.specs.declared.step.Early.{Early}
 use Rattle.interp_graph.proofs.Listing.{passes_later}
 use Rattle.interp_graph.proofs.Located.{all_located}
 use Rattle.interp_graph.proofs.Passing.{passed_on}
@@ -12,9 +12,9 @@ use Rattle.interp_graph.proofs.turns.follow_rest.Goals as goal
 
 pub loop-alloc-init : goal.loop-alloc-init
 loop-alloc-init c =
-    subst (λ (left : List Draft). RestSoFar c.args.walker.now c.args.most c.args.states.now c.args.states.now left c.new-nodes.result) (sym c.into_iter-left.ensures.into_iter_gives.0)
-    (subst (RestSoFar c.args.walker.now c.args.most c.args.states.now c.args.states.now c.args.drafts) (sym c.new-nodes.ensures)
-    (rest_begun c.args.walker.now c.args.most c.args.states.now c.args.drafts c.requires.few c.requires.drafts))
+    subst (λ (left : List Early). RestSoFar c.args.walker.now c.args.most c.args.states.now c.args.states.now left c.new-nodes.result) (sym c.into_iter-left.ensures.into_iter_gives.0)
+    (subst (RestSoFar c.args.walker.now c.args.most c.args.states.now c.args.states.now c.args.early) (sym c.new-nodes.ensures)
+    (rest_begun c.args.walker.now c.args.most c.args.states.now c.args.early c.requires.few c.requires.early))
 
 pub draft_or_forks-requires : goal.draft_or_forks-requires
 draft_or_forks-requires c =
