@@ -1,5 +1,5 @@
--- For the code alone, no public clause cites it: what is told of targets by what walks of type A ask last, since those of all
--- types but CNAME go alike.
+-- For the code alone, no public clause cites it: what is told of targets by what walks of type A ask last, since those of
+-- all types but CNAME go alike.
 use Rattle.std.specs.Prelude.{◌≡◌, ◌&&◌, nat_lt, Bool, false, List, length, map, Option, Some, None, option_map, if◌then◌else◌}
 use Rattle.std.specs.BTreeMap as maps
 use Rattle.std.specs.List.{flat_map, list_any}

@@ -15,8 +15,8 @@ use std::collections::BTreeMap;
 use std::marker::Model;
 use zone_lookup::Hosts;
 
-/// The servers with the trees of their zones, those that are followed, what the walks of aliases and of targets ask last, and
-/// what is told of targets at servers, as far as it was asked for before. Contracts see what walks are read in.
+/// The servers with the trees of their zones, those that are followed, what the walks of aliases and of targets ask last,
+/// and what is told of targets at servers, as far as it was asked for before. Contracts see what walks are read in.
 #[derive(Drop)]
 pub struct AliasAsker<'h, 'a> {
     hosts: &'h Hosts<'a>,

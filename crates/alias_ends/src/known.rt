@@ -9,14 +9,12 @@ ghost use Rattle.net_model.specs.Step.{following, Setting};
 ghost use Rattle.alias_ends.specs.Known.{Knows, ends_in, is_at, some_at};
 
 use dns_data::{List, Name, NoMemory, RrType};
+use name_ends::MOST_WALKS;
 use plain_resolver::{ResolveFault, ZoneEnd, zone_ends};
 use std::alloc::Global;
 use std::collections::BTreeMap;
 use std::marker::Model;
 use zone_lookup::{Hosts, Walker};
-
-/// How many walks of a name with one type are followed at most.
-const MOST_WALKS: u32 = 1_000;
 
 /// What the walks of names from the top servers ask last, of those names that were asked for before, with one type, while
 /// some servers are followed. Contracts see what walks are read in, and the type.

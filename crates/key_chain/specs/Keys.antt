@@ -100,8 +100,8 @@ wire_of name = wire_labels name ++ 0 ∷ []
 abbrev pub digests_of : List ℕ → Key → KeyDigests
 digests_of wire key = record { by_sha1 = sha1 (wire ++ key.octets); by_sha256 = sha256 (wire ++ key.octets); by_sha384 = sha384 (wire ++ key.octets) }
 
--- the digest of this type: SHA-1, SHA-256, SHA-384 (RFC 4034 appendix A.2, RFC 4509 section 2.2, RFC 6605 section 2); there is
--- none of a type that isn't looked at
+-- the digest of this type: SHA-1, SHA-256, SHA-384 (RFC 4034 appendix A.2, RFC 4509 section 2.2, RFC 6605 section 2); there
+-- is none of a type that isn't looked at
 abbrev pub digest_by : ℕ → KeyDigests → List ℕ
 digest_by kind digests =
     if kind == 1 then digests.by_sha1 else (if kind == 2 then digests.by_sha256 else (if kind == 4 then digests.by_sha384 else []))

@@ -13,7 +13,7 @@ use Rattle.dns_data.specs.declared.rdata.Rdata.{Rdata}
 use Rattle.dns_data.specs.declared.rr_type.RrType.{RrType}
 use Rattle.dns_data.specs.declared.rr_type.RrType.TheVariants as types
 use Rattle.net_model.specs.declared.config.Config.{Config}
-use Rattle.net_model.specs.declared.place.Cut.{Cut}
+use Rattle.net_model.specs.declared.config.Zone.{Zone}
 use Rattle.net_model.specs.declared.walk.Hop.TheVariants.{Refer}
 use Rattle.net_model.specs.declared.walk.Leaf.{Leaf}
 use Rattle.net_model.specs.declared.walk.Leaf.TheVariants as leaves
@@ -26,6 +26,7 @@ use Rattle.net_model.specs.Step.{Branch, End, Setting, after_lookup, arrived, fo
 use Rattle.net_model.specs.Zone.{data_at, data_cmp, ns_names}
 use Rattle.net_model.proofs.AllWalks.{LeadsTo, Settled, walks_by, walks_within}
 use Rattle.net_model.proofs.WalkLists.{are_walks, total}
+use Rattle.zone_lookup.specs.CutTable.{cut_to}
 use Rattle.zone_lookup.specs.Reply.{IsReply}
 use Rattle.zone_lookup.specs.Resting.{data_leaf}
 use Rattle.zone_lookup.specs.Tree.{ZoneTree, name_of}
@@ -116,21 +117,17 @@ module _ (setting : Setting) (rtype : RrType) where
     data_told [] = refl
     data_told (first ∷ rest) = refl
 
-    module _ (zone cut : Labels) where
-      -- the referral to a name server
-      abbrev cut_to : Labels → Cut
-      cut_to ns = record { server = state.server; zone = zone; cut = cut; ns = ns }
-
+    module _ (zone : Zone) (cut : Labels) where
       -- the branch to a name server that isn't configured
       abbrev outside : Labels → Branch
-      outside ns = End (Some (Refer (cut_to ns))) (leaves.Unhosted ns)
+      outside ns = End (Some (Refer (cut_to state.server zone cut ns))) (leaves.Unhosted ns)
 
       all_outside : (names : List Labels) → list_any (is_configured setting.config) names ≡ false
-          → map (λ ns. referred setting state (cut_to ns)) names ≡ map outside names
+          → map (λ ns. referred setting state (cut_to state.server zone cut ns)) names ≡ map outside names
       all_outside [] none = refl
       all_outside (ns ∷ names) none =
           let both = or_parts (is_configured setting.config ns) (list_any (is_configured setting.config) names) none in
-          λ i. refers_by setting state (cut_to ns) lead.Unhosted both.0 i ∷ all_outside names both.1 i
+          λ i. refers_by setting state (cut_to state.server zone cut ns) lead.Unhosted both.0 i ∷ all_outside names both.1 i
 
       outside_settled : (names : List Labels) → AllByRecursion (LeadsTo (Settled 0 setting rtype)) (map outside names)
       outside_settled [] = tt
@@ -245,9 +242,9 @@ module _ (config : Config) (name : Labels) where
         (λ rewrites followed.
         let setting = following config rewrites followed in
         let state = begins_at server in
-        let zone : Labels = tree.now.zone.origin in
+        let zone : Zone = tree.now.zone in
         let at : Labels = name_of tree.now cut in
-        let names : List Labels = ns_names tree.now.zone at in
+        let names : List Labels = ns_names zone at in
         let one = λ (rtype : RrType).
         by_branches setting rtype state (map (outside setting rtype state zone at) names) (plain_ends false false false false (not (length names == 0)))
         (refers_on setting state rtype tree cut so ∙ all_outside setting rtype state zone at names out.none)

@@ -1,5 +1,5 @@
--- For the code alone, no public clause cites it: names of which each walk ends at the top server where it begins, or at a name
--- server that isn't configured.
+-- For the code alone, no public clause cites it: names of which each walk ends at the top server where it begins, or at a
+-- name server that isn't configured.
 use Rattle.std.specs.Prelude.{◌≡◌, ◌∷◌, [], ℕ, ◌*◌, ◌≤◌, Bool, true, false, ◌||◌, not, List, length, map, None, ◌==◌}
 use Rattle.std.specs.List.{AllByRecursion, flat_map, list_any}
 use Rattle.dns_data.specs.Name.{Labels}
@@ -68,7 +68,8 @@ either_seen a b = record { four = either_ends a.four b.four; six = either_ends a
 abbrev pub seen_alike : TypeEnds → SeenEnds
 seen_alike ends = record { four = ends; six = ends }
 
--- what is told of walks that a zone cut with these name servers ends, of which none is configured, and there aren't too many
+-- what is told of walks that a zone cut with these name servers ends, of which none is configured, and there aren't too
+-- many
 pub record RefersOutside (config : Config) (names : List Labels) (seen : SeenEnds) : Type 0 where
   pub none : list_any (is_configured config) names ≡ false
   pub few : length names ≤ most_at_once

@@ -14,7 +14,7 @@ use std::marker::Model;
 use zone_lookup::Hosts;
 
 /// How many walks of a name with one type are followed at most.
-const MOST_WALKS: u32 = 1_000;
+pub const MOST_WALKS: u32 = 1_000;
 
 /// The servers with the trees of their zones, how many rewrites a walk may use, the servers that are followed, and how the
 /// walks of the names end that were asked before. Contracts see what walks are read in.

@@ -25,12 +25,12 @@ pub(crate) struct SeenEnds {
     pub six: TypeEnds,
 }
 
-/// How the walks of a name end, if that is seen without following one: at each top server what it replies ends them, or they
-/// end at name servers that aren't configured. There are few walks then. It takes no memory.
+/// How the walks of a name end, if that is seen without following one: at each top server what it replies ends them, or
+/// they end at name servers that aren't configured. There are few walks then. It takes no memory.
 pub(crate) fn ends_at_once(hosts: &Hosts<'_>, name: &Name) -> Option<NameEnds>
     ensures { IfSome result (λ ends. (rewrites : ℕ) (followed : List Labels) → ends ≡ ends_in (following hosts.now rewrites followed) name.now) }
 {
-    let tops = hosts.config().tops.items();
+    let tops = hosts.config().tops();
     if tops.len() > MOST_TOPS {
         return None;
     }

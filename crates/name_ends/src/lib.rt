@@ -12,6 +12,6 @@ mod at_once;
 mod ends;
 mod kinds;
 
-pub use asker::Asker;
+pub use asker::{Asker, MOST_WALKS};
 pub use ends::{NameEnds, TypeEnds};
 pub use kinds::EndKind;

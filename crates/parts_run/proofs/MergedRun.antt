@@ -17,13 +17,15 @@ use Rattle.part_form.proofs.ReadBack.{part_reads_back}
 use Rattle.part_reports.specs.Reported.{Reported, AreReportsOf, StandInOrder, all_read}
 use Rattle.part_reports.proofs.InOrder.{never_refused}
 use Rattle.part_reports.proofs.MergedReport.{merged_whole}
-use Rattle.run_endings.specs.Runs.{FilesOfRun, OutputOfRun, GotText, Ends as RunEnds}
+use Rattle.run_endings.proofs.Written.{whole}
+use Rattle.run_endings.specs.Runs.{FilesOfRun, OutputOfRun, GotText, IsWritten}
 use Rattle.run_endings.specs.Endings.{OfReading}
 use Rattle.run_endings.specs.declared.ending.Ending.{Ending}
+use Rattle.run_endings.specs.declared.status.Status.{Status}
 use Rattle.run_endings.specs.declared.status.Status.TheVariants as statuses
-use Rattle.parts_run.specs.Outcome.{IsToldOf, JobComesTo, Outcome, TellsMerged, faults_status}
+use Rattle.parts_run.specs.Outcome.{IsToldOf, Outcome, TellsMerged, faults_status}
 use Rattle.parts_run.specs.Reading.{report_or, reports_read}
-use Rattle.parts_run.specs.Runs.{MergesParts, WritesReport}
+use Rattle.parts_run.specs.Runs.{EndsAsAsked, MergesParts, WritesReport}
 use Rattle.parts_run.specs.Words.{job_of}
 use Rattle.parts_run.proofs.ReportsRead.{behind_report}
 
@@ -72,14 +74,15 @@ module _ (config : Config) (rewrites : ℕ) (reports : List Reported) (right : A
 
 -- A run that is asked to merge files that hold what is written of parts writes the report of the whole, where its text was
 -- written whole; or the reports don't stand in order; or memory ran out.
-pub merges_parts : (words : List (List ℕ)) (files : FilesOfRun) (out : OutputOfRun) (ending : Ending)
-    → RunEnds (λ told. Outcome told (job_of words)) (λ told. JobComesTo told (job_of words)) files ending → GotText out ending.out
-    → MergesParts words files out ending.status
-merges_parts words files out ending ends got names job config rewrites reports right each none quiet =
-    elim (ends.complete none) [
-      | inl outcome ↦ merges config rewrites reports right names out ending (tells outcome) got
+pub merges_parts : (words : List (List ℕ)) (files : FilesOfRun) (out err : OutputOfRun) (ending : Ending) → EndsAsAsked words files ending
+    → (status : Status) → IsWritten ending out err status → MergesParts words files out status
+merges_parts words files out err ending ends status is names job config rewrites reports right each none quiet =
+    let wrote = whole ending out err status is quiet in
+    subst (λ (status : Status). WritesReport config rewrites out status ⊎ (((status ≡ statuses.Refused) × (StandInOrder reports → ⊥)) ⊎ (status ≡ statuses.NoMemory))) (sym wrote.0)
+    (elim (ends.complete none) [
+      | inl outcome ↦ merges config rewrites reports right names out ending (tells outcome) wrote.1
       | inr ran_out ↦ inr (inr (ap (λ (one : Ending). one.status) ran_out))
-    ]
+    ])
   where
     tells : Outcome files.told_after (job_of words) ending → TellsMerged names (Ok (all_read reports)) ending
     tells outcome =

@@ -1,5 +1,5 @@
 -- How a run ends, by its job and by what is told of the files.
-use Rattle.std.specs.Prelude.{◌≡◌, ◌⊎◌, ℕ, ◌-◌, Bool, List, [], length, codes, decimal, if◌then◌else◌, Option, Some, None, Result, Ok, Err}
+use Rattle.std.specs.Prelude.{◌≡◌, ℕ, ◌-◌, Bool, List, [], length, codes, decimal, if◌then◌else◌, Option, Some, None, Result, Ok, Err}
 use Rattle.io_edges.specs.Counts.{Rose}
 use Rattle.io_edges.specs.Files.{FilesTold}
 use Rattle.config_load.specs.Faults.{name_numbered}
@@ -63,10 +63,6 @@ Outcome told (Some files) ending = OfReading [] (TellsMerged files) (reports_rea
 abbrev pub JobComesTo : FilesTold → Option (List (List ℕ)) → List ℕ → Type 0
 JobComesTo told None file = ⊥
 JobComesTo told (Some files) file = ComesToFile (reports_read [] files) told file
-
--- no other file is opened than those to which the job comes: of any other name the same is told as before
-abbrev pub JobOpensNoOther : FilesTold → FilesTold → Option (List (List ℕ)) → Type 0
-JobOpensNoOther before after job = (file : List ℕ) → (after file ≡ before file) ⊎ JobComesTo after job file
 
 -- no count of a file rose to which the job comes
 abbrev pub NoJobReadFailed : FilesTold → Option (List (List ℕ)) → (List ℕ → ℕ) → (List ℕ → ℕ) → Type 0

@@ -1,5 +1,5 @@
 -- What a run of words does.
-use Rattle.std.specs.Prelude.{◌≡◌, ◌⊎◌, ℕ, not, ◌==◌, List, length, Some}
+use Rattle.std.specs.Prelude.{◌≡◌, ◌⊎◌, ℕ, not, ◌==◌, List, length, Option, Some}
 use Rattle.std.specs.List.{AllZip}
 use Rattle.graph_form.specs.Report.{IsReport}
 use Rattle.graph_form.specs.declared.report.Report.{Report}
@@ -34,9 +34,13 @@ MergesParts words files out status =
     → NoJobReadFailed files.told_after (job_of words) files.failed_before files.failed_after → runs.NoneFailed out
     → WritesReport config rewrites out status ⊎ (((status ≡ Refused) × (StandInOrder reports → ⊥)) ⊎ (status ≡ NoMemory))
 
+-- how the run of a job ends, up to the writing
+abbrev pub JobEnds : Option (List (List ℕ)) → runs.FilesOfRun → Ending → Type 0
+JobEnds job = runs.Ends (λ told. Outcome told job) (λ told. JobComesTo told job)
+
 -- how a run of words ends, up to the writing
 abbrev pub EndsAsAsked : List (List ℕ) → runs.FilesOfRun → Ending → Type 0
-EndsAsAsked words = runs.Ends (λ told. Outcome told (job_of words)) (λ told. JobComesTo told (job_of words))
+EndsAsAsked words = JobEnds (job_of words)
 
 -- what a run of words does, as it is seen from outside
 abbrev pub RunsAsAsked : List (List ℕ) → runs.FilesOfRun → runs.OutputOfRun → runs.OutputOfRun → Status → Type 0

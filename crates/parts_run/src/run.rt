@@ -1,20 +1,18 @@
 //! The top call.
 
 ghost use Rattle.std.specs.Prelude.{◌≡◌, ◌⊎◌, map, Some};
-ghost use Rattle.io_edges.specs.Files.{TellsAll};
 ghost use Rattle.run_endings.specs.Endings.{no_memory};
+ghost use Rattle.run_endings.specs.Runs.{files_of, output_of};
 ghost use Rattle.parts_run.specs.Answered.{IsNotRead};
-ghost use Rattle.parts_run.specs.JobEnds.{JobEnds};
-ghost use Rattle.parts_run.specs.Outcome.{JobOpensNoOther};
-ghost use Rattle.parts_run.specs.Runs.{EndsAsAsked, MergesParts, RunsAsAsked};
+ghost use Rattle.parts_run.specs.Runs.{EndsAsAsked, JobEnds, MergesParts, RunsAsAsked};
 
 use crate::fault::ReadFault;
 use crate::merge::{merged_ending, refused};
 use crate::reading::read_reports;
 use crate::words::{read_words, usage_line};
 use dns_data::{NoMemory, Text};
-use io_edges::{Failed, Files, Sink};
-use run_endings::{Ending, Status, tell, write_text};
+use io_edges::{Files, Sink};
+use run_endings::{Ending, Status, write_ending};
 use std::alloc::Global;
 
 /// Does what the words after the program's name ask for, writes its text on out, and tells on err how it ended.
@@ -29,38 +27,21 @@ pub fn groot_parts<F: Files, O: Sink, E: Sink>(
     // the report of the whole, and the status is 1 exactly if it has an entry; or the reports don't stand in order, and
     // are refused; or memory ran out.
     ensures merge { MergesParts (map (λ word. word.now) words.now)
-        (record { told_before = F.told files.old; told_after = F.told files.new; failed_before = F.faults files.old; failed_after = F.faults files.new })
-        (record { taken_before = O.taken out.old; taken_after = O.taken out.new; passed_before = O.passed out.old; passed_after = O.passed out.new; failed_before = O.faults out.old; failed_after = O.faults out.new })
-        result }
+        (files_of F.told F.faults files.old files.new) (output_of O.taken O.passed O.faults out.old out.new) result }
 
     // Where nothing failed, the run is an outcome of the words' job, and out passed on exactly its text; else the run says
     // why.
     ensures run { RunsAsAsked (map (λ word. word.now) words.now)
-        (record { told_before = F.told files.old; told_after = F.told files.new; failed_before = F.faults files.old; failed_after = F.faults files.new })
-        (record { taken_before = O.taken out.old; taken_after = O.taken out.new; passed_before = O.passed out.old; passed_after = O.passed out.new; failed_before = O.faults out.old; failed_after = O.faults out.new })
-        (record { taken_before = E.taken err.old; taken_after = E.taken err.new; passed_before = E.passed err.old; passed_after = E.passed err.new; failed_before = E.faults err.old; failed_after = E.faults err.new })
-        result }
+        (files_of F.told F.faults files.old files.new) (output_of O.taken O.passed O.faults out.old out.new) (output_of E.taken E.passed E.faults err.old err.new) result }
 {
-    let ending = run_words(alloc, words, files);
-    match write_text(out, &ending.out) {
-        Ok(()) => {
-            tell(err, ending.err.octets());
-            ending.status
-        }
-        Err(Failed) => {
-            tell(err, b"output failed\n");
-            Status::WriteFault
-        }
-    }
+    write_ending(out, err, run_words(alloc, words, files))
 }
 
 /// Does what the words after the program's name ask for, up to the writing: the status with which the run ends, the
 /// text for out and the line for err.
 fn run_words<F: Files>(alloc: Global, words: &[&str], files: &mut F) -> Ending
     // Where no read failed, it is an outcome of the words' job; else the ending says why.
-    ensures run { EndsAsAsked (map (λ word. word.now) words.now)
-        (record { told_before = F.told files.old; told_after = F.told files.new; failed_before = F.faults files.old; failed_after = F.faults files.new })
-        result }
+    ensures run { EndsAsAsked (map (λ word. word.now) words.now) (files_of F.told F.faults files.old files.new) result }
 {
     match read_words(alloc, words) {
         Ok(Some(names)) => of_reports(alloc, files, names.items()),
@@ -71,9 +52,7 @@ fn run_words<F: Files>(alloc: Global, words: &[&str], files: &mut F) -> Ending
 
 /// What the reports of the files of these names give.
 fn of_reports<F: Files>(alloc: Global, files: &mut F, names: &[Text]) -> Ending
-    ensures cause { JobEnds (F.told files.new) (Some names.now) (F.faults files.old) (F.faults files.new) result }
-    ensures from_the_start { TellsAll (F.told files.old) → F.told files.new ≡ F.told files.old }
-    ensures opens { JobOpensNoOther (F.told files.old) (F.told files.new) (Some names.now) }
+    ensures { JobEnds (Some names.now) (files_of F.told F.faults files.old files.new) result }
 {
     match read_reports(alloc, files, names) {
         Ok(parts) => merged_ending(alloc, names, parts),

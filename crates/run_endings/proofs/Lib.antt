@@ -1,3 +1,4 @@
+pub mod AsAsked
 pub mod OneReading
 pub mod Written
 mod Pieces

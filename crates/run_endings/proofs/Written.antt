@@ -9,7 +9,7 @@ use Rattle.run_endings.specs.declared.status.Status.{Status}
 use Rattle.run_endings.specs.declared.status.Status.TheVariants.{WriteFault, NoMemory}
 use Rattle.run_endings.specs.Endings.{no_memory}
 use Rattle.run_endings.specs.Writing.{output_failed}
-use Rattle.run_endings.specs.Runs.{FilesOfRun, OutputOfRun, GotText, IsLeftOn, GotLine, Ends, Runs}
+use Rattle.run_endings.specs.Runs.{FilesOfRun, OutputOfRun, NoneFailed, GotText, IsLeftOn, GotLine, IsWritten, Ends, Runs}
 
 -- known bytes that grow by nothing are kept
 grown_by_none : (a b : Option (List ℕ)) (text : List ℕ) → text ≡ [] → Appends a b text → Keeps a b
@@ -17,10 +17,10 @@ grown_by_none None b text none grows = tt
 grown_by_none (Some xs) None text none grows = absurd grows
 grown_by_none (Some xs) (Some ys) text none grows = grows ∙ (ap (λ r. xs ++ r) none ∙ append-nil xs)
 
--- where memory ran out before a file was opened, so the run ends
-nothing_done : (IsOutcome : FilesTold → Ending → Type 0) (ComesTo : FilesTold → List ℕ → Type 0) (files : FilesOfRun) → files.told_after ≡ files.told_before
-    → Ends IsOutcome ComesTo files no_memory
-nothing_done IsOutcome ComesTo files same = record {
+-- a run ends so where memory ran out before a file was opened
+pub nothing_done : (IsOutcome : FilesTold → Ending → Type 0) (ComesTo : FilesTold → List ℕ → Type 0) (files : FilesOfRun) (ending : Ending)
+    → files.told_after ≡ files.told_before → ending ≡ no_memory → Ends IsOutcome ComesTo files ending
+nothing_done IsOutcome ComesTo files ending same is = subst (Ends IsOutcome ComesTo files) (sym is) (record {
   complete = λ none. inr refl;
   cause = inr (inr refl);
   read_fault = λ file is. absurd (cc);
@@ -28,7 +28,13 @@ nothing_done IsOutcome ComesTo files same = record {
   silent = λ nothing. refl;
   from_the_start = λ tells. same;
   opens = λ file. inl (ap (λ (told : FilesTold). told file) same);
-}
+})
+
+-- where no call of out failed, the status is the ending's, and out got its whole text
+pub whole : (ending : Ending) (out err : OutputOfRun) (status : Status) → IsWritten ending out err status → NoneFailed out
+    → (status ≡ ending.status) × GotText out ending.out
+whole ending out err status (inl (is, got, told)) quiet = (is, got)
+whole ending out err status (inr (is, rose, left, told)) quiet = absurd (quiet rose)
 
 module _ (IsOutcome : FilesTold → Ending → Type 0) (ComesTo : FilesTold → List ℕ → Type 0) (files : FilesOfRun) (out err : OutputOfRun) (ending : Ending)
     (ends : Ends IsOutcome ComesTo files ending) where
@@ -60,8 +66,13 @@ module _ (IsOutcome : FilesTold → Ending → Type 0) (ComesTo : FilesTold → 
     opens = ends.opens;
   }
 
+  -- so a written ending is a run
+  pub of_written : (status : Status) → IsWritten ending out err status → Runs IsOutcome ComesTo files out err status
+  of_written status (inl (is, got, told)) = subst (Runs IsOutcome ComesTo files out err) (sym is) (written got told)
+  of_written status (inr (is, rose, left, told)) = subst (Runs IsOutcome ComesTo files out err) (sym is) (not_written rose left told)
+
 -- where memory ran out before anything was done, and err got the line that says so, it is a run of each job
 pub ran_out : (IsOutcome : FilesTold → Ending → Type 0) (ComesTo : FilesTold → List ℕ → Type 0) (files : FilesOfRun) (out err : OutputOfRun) (how : Status)
     → files.told_after ≡ files.told_before → GotText out [] → GotLine err no_memory.err → how ≡ NoMemory → Runs IsOutcome ComesTo files out err how
 ran_out IsOutcome ComesTo files out err how same got told is =
-    subst (Runs IsOutcome ComesTo files out err) (sym is) (written IsOutcome ComesTo files out err no_memory (nothing_done IsOutcome ComesTo files same) got told)
+    of_written IsOutcome ComesTo files out err no_memory (nothing_done IsOutcome ComesTo files no_memory same refl) how (inl (is, got, told))

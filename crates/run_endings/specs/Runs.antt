@@ -8,7 +8,7 @@ use Rattle.run_endings.specs.declared.ending.Ending.{Ending}
 use Rattle.run_endings.specs.declared.status.Status.{Status}
 use Rattle.run_endings.specs.declared.status.Status.TheVariants.{ReadFault, WriteFault, NoMemory}
 use Rattle.run_endings.specs.Endings.{read_failed, no_memory, writes_nothing}
-use Rattle.run_endings.specs.Writing.{IsLeft, IsPassedOn, TookLine, PassedLine}
+use Rattle.run_endings.specs.Writing.{IsLeft, IsPassedOn, TookLine, PassedLine, output_failed}
 
 -- the files of a run: what is told of them, and how many calls failed at each, before the run and after it
 pub record FilesOfRun : Type 0 where
@@ -25,6 +25,23 @@ pub record OutputOfRun : Type 0 where
   pub passed_after : Option (List ℕ)
   pub failed_before : ℕ
   pub failed_after : ℕ
+
+-- the files of a run, by what is told of them and how many calls failed, in their two states
+abbrev pub files_of : {F : Type 0} → (F → FilesTold) → (F → List ℕ → ℕ) → F → F → FilesOfRun
+files_of told failed before after =
+    record { told_before = told before; told_after = told after; failed_before = failed before; failed_after = failed after }
+
+-- an output of a run, by what it took, what it passed on and how many calls failed, in its two states
+abbrev pub output_of : {O : Type 0} → (O → Option (List ℕ)) → (O → Option (List ℕ)) → (O → ℕ) → O → O → OutputOfRun
+output_of taken passed failed before after =
+    record {
+      taken_before = taken before;
+      taken_after = taken after;
+      passed_before = passed before;
+      passed_after = passed after;
+      failed_before = failed before;
+      failed_after = failed after;
+    }
 
 -- no call of the output failed
 abbrev pub NoneFailed : OutputOfRun → Type 0
@@ -50,6 +67,13 @@ abbrev pub GotLine : OutputOfRun → List ℕ → Type 0
 GotLine output line =
     TookLine output.taken_before output.taken_after output.failed_before output.failed_after line
     × PassedLine output.passed_before output.passed_after output.failed_before output.failed_after line
+
+-- What the writing of an ending gives: out got the whole text, and err its line; or a call of out failed, and err got the
+-- line that says so.
+abbrev pub IsWritten : Ending → OutputOfRun → OutputOfRun → Status → Type 0
+IsWritten ending out err status =
+    ((status ≡ ending.status) × GotText out ending.out × GotLine err ending.err)
+    ⊎ ((status ≡ WriteFault) × Rose out.failed_before out.failed_after × IsLeftOn out ending output_failed × GotLine err output_failed.err)
 
 module _ (IsOutcome : FilesTold → Ending → Type 0) (ComesTo : FilesTold → List ℕ → Type 0) (files : FilesOfRun) where
   -- no count of a file rose to which the job comes

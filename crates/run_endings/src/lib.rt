@@ -12,6 +12,6 @@ mod text;
 
 pub use ending::{Ending, more_than, refusal_line};
 pub use line::EndingLine;
-pub use output::{tell, tell_no_memory, write_all, write_text};
+pub use output::{tell, tell_no_memory, write_all, write_ending};
 pub use status::Status;
 pub use text::OutText;

@@ -6,8 +6,10 @@ ghost use Rattle.std.specs.List.{flat_map};
 ghost use Rattle.io_edges.specs.Counts.{Rose};
 ghost use Rattle.io_edges.specs.Passed.{PassedFront};
 ghost use Rattle.run_endings.specs.Endings.{no_memory};
+ghost use Rattle.run_endings.specs.Runs.{IsWritten, output_of};
 ghost use Rattle.run_endings.specs.Writing.{TookProperFront, TookLine, PassedLine};
 
+use crate::ending::Ending;
 use crate::status::Status;
 use crate::text::{OutText, TextForm};
 use dns_data::Octets;
@@ -34,7 +36,7 @@ pub fn write_all<S: Sink>(sink: &mut S, text: &[u8]) -> Result<(), Failed>
 
 /// Writes all of a text for out, piece by piece where it stands in pieces. After a failure the sink took a proper front of
 /// it, and passed on a front.
-pub fn write_text<S: Sink>(sink: &mut S, text: &OutText) -> Result<(), Failed>
+pub(crate) fn write_text<S: Sink>(sink: &mut S, text: &OutText) -> Result<(), Failed>
     ensures ok { OnOk result (Appends (S.taken sink.old) (S.taken sink.new) text.now) }
     ensures err { OnErr result (TookProperFront (S.taken sink.old) (S.taken sink.new) text.now) }
     ensures passes { OnOk result (Appends (S.passed sink.old) (S.passed sink.new) text.now) }
@@ -62,6 +64,23 @@ fn write_pieces<S: Sink>(sink: &mut S, pieces: &[Octets]) -> Result<(), Failed>
         write_all(sink, piece.items())?;
     }
     Ok(())
+}
+
+/// Writes the text of an ending on out, and tells its line on err. The status is the ending's; or, where out fails, that of
+/// a failed writing, of which err is told in place of the line.
+pub fn write_ending<O: Sink, E: Sink>(out: &mut O, err: &mut E, ending: Ending) -> Status
+    ensures { IsWritten ending (output_of O.taken O.passed O.faults out.old out.new) (output_of E.taken E.passed E.faults err.old err.new) result }
+{
+    match write_text(out, &ending.out) {
+        Ok(()) => {
+            tell(err, ending.err.octets());
+            ending.status
+        }
+        Err(Failed) => {
+            tell(err, b"output failed\n");
+            Status::WriteFault
+        }
+    }
 }
 
 /// Tells a line on err. A failure to do so changes nothing else.

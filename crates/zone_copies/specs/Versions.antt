@@ -27,8 +27,8 @@ use Rattle.zone_copies.specs.declared.version.CopyWord.TheVariants.{Same, Renumb
 abbrev pub other_number : List ℕ → ℕ
 other_number word = option_map_or (λ number. number) (kept_number word) 0
 
--- what data of a type beyond the twelve are compared by: their octets, where these are known, else their tokens, each with a
--- line feed behind it, which no token has; a first octet tells which
+-- what data of a type beyond the twelve are compared by: their octets, where these are known, else their tokens, each with
+-- a line feed behind it, which no token has; a first octet tells which
 abbrev pub tokens_or_octets : List (List ℕ) → Option (List ℕ) → List ℕ
 tokens_or_octets tokens (Some octets) = 1 ∷ octets
 tokens_or_octets tokens None = 0 ∷ flat_map (λ token. token ++ 10 ∷ []) tokens

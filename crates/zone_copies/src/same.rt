@@ -9,8 +9,8 @@ ghost use Rattle.zone_copies.specs.Plain.{plain};
 use dns_data::Rr;
 use net_model::Zone;
 
-/// Whether the records of two zones have the same owners and data, one by one. Then what is compared of the zones is the same,
-/// and needn't be made.
+/// Whether the records of two zones have the same owners and data, one by one. Then what is compared of the zones is the
+/// same, and needn't be made.
 pub fn have_same_records(a: &Zone, b: &Zone) -> bool
     ensures { result ≡ true → version_of a.now ≡ version_of b.now }
 {

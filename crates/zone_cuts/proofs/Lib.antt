@@ -1,3 +1,2 @@
-pub mod NamesInOrder
 pub mod OrderedCuts
 mod RecordsFound

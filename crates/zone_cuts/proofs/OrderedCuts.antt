@@ -11,7 +11,7 @@ use Rattle.dns_data.specs.declared.rr_type.RrType.TheVariants as types
 use Rattle.dns_data.proofs.Membership.{filter_has, from_filter, from_map, map_has}
 use Rattle.dns_data.proofs.NameFronts.{begins_itself}
 use Rattle.dns_data.proofs.NameOrder.{names_total, pairs_from_rising}
-use Rattle.dns_data.proofs.Names.{name_eq_decides}
+use Rattle.dns_data.proofs.Names.{name_eq_decides, same_names}
 use Rattle.dns_data.proofs.OrderedLists.{same_rising}
 use Rattle.dns_data.proofs.Searches.{any_has, found_there, from_any}
 use Rattle.net_model.specs.declared.config.Zone.{Zone}
@@ -19,9 +19,9 @@ use Rattle.net_model.specs.Lookup.{Deciding, ByCut, ByRedirection, ByRecords, By
 use Rattle.net_model.specs.Order.{in_order}
 use Rattle.net_model.specs.Prefix.{prefixes}
 use Rattle.net_model.specs.Zone.{exists_in, is_of, owns}
+use Rattle.net_model.proofs.ItemsInOrder.{from_order, order_has, order_rises}
 use Rattle.net_model.proofs.StepBounds.{is_the_cut}
 use Rattle.zone_cuts.specs.Cuts.{cuts, cuts_at, is_cut}
-use Rattle.zone_cuts.proofs.NamesInOrder.{from_order, order_has, order_rises}
 
 module _ (zone : Zone) where
   -- the owners of a zone's records
@@ -67,7 +67,7 @@ module _ (zone : Zone) where
       (AllPairs-filter (λ a b. name_cmp a b ≡ Less) (is_cut zone) (in_order name_cmp owners) (pairs_from_rising (in_order name_cmp owners) (order_rises owners)))
       (λ name has.
       let both = from_filter (is_cut zone) names name has in
-      filter_has (is_cut zone) (in_order name_cmp owners) name (order_has owners name (cut_is_owner name both.1)) both.1)
+      filter_has (is_cut zone) (in_order name_cmp owners) name (order_has name_cmp same_names owners name (cut_is_owner name both.1)) both.1)
       (λ name has.
       let both = from_filter (is_cut zone) (in_order name_cmp owners) name has in
-      filter_has (is_cut zone) names name ((all name).1 (owner_exists name (from_order owners name both.0) both.1)) both.1)
+      filter_has (is_cut zone) names name ((all name).1 (owner_exists name (from_order name_cmp owners name both.0) both.1)) both.1)

@@ -1,12 +1,11 @@
 -- Servers that answer at the origins of zones, as the check keeps them, and what is told of rows by them.
-use Rattle.std.proofs.Common.{◌≡◌, Bool, true, false, ◌&&◌, ◌||◌, cond, List, [], ◌∷◌, ◌++◌, map, is_eq, refl, sym, ap, ◌∙◌}
+use Rattle.std.proofs.Common.{◌≡◌, Bool, true, false, ◌&&◌, ◌||◌, cond, List, [], ◌∷◌, ◌++◌, map, refl, sym, ap, ◌∙◌}
 use Rattle.std.proofs.Math.Bool.{and-false, and-true, or-false, or_comm}
 use Rattle.std.proofs.lemmas.List.Folds.{list_any-append}
-use Rattle.std.specs.BTreeSet as tree
-use Rattle.std.specs.Cmp.Lexicographic.{lists_equiv, lists_ties, nat_list_eq_equiv, slice_cmp, texts_ties}
+use Rattle.std.specs.Cmp.Lexicographic.{lists_equiv, nat_list_eq_equiv}
+use Rattle.std.specs.HashSet as sets
 use Rattle.std.specs.List.{flat_map, list_any}
-use Rattle.dns_data.specs.Label.{label_cmp}
-use Rattle.dns_data.specs.Name.{Labels, name_cmp, name_eq}
+use Rattle.dns_data.specs.Name.{Labels, name_eq}
 use Rattle.dns_data.specs.RrType.{type_eq}
 use Rattle.dns_data.specs.declared.rr_type.RrType.TheVariants.{Soa}
 use Rattle.net_model.specs.declared.class.Class.{Class}
@@ -16,8 +15,9 @@ use Rattle.site_checks.specs.Ends.{is_answer}
 use Rattle.site_checks.specs.declared.views.TypedEnd.{TypedEnd}
 use Rattle.site_checks.specs.declared.views.View.{View}
 use Rattle.zone_map.specs.Reached.{after_view, answers_at, is_alone, reached_word, shows_reached}
-use Rattle.zone_map.specs.ReachedRows.{answering_at, is_answering, is_row_answered, tells}
+use Rattle.zone_map.specs.ReachedRows.{answering_at, is_answering, is_row_answered, teller_eq, tells}
 use Rattle.zone_map.specs.declared.answered.Answered.{Answered}
+use Rattle.zone_map.specs.declared.answered.Teller.{Teller}
 use Rattle.zone_map.proofs.SeenRows.{one_view}
 
 -- ---- the servers of a view
@@ -65,20 +65,15 @@ words_stay view above rows told of_class =
 -- ---- sets of what tells of servers and origins
 
 -- a set to which a server and an origin were added tells of them, and of what it told
-pub tells_more : (old new : tree.BTreeSet (List Labels)) (key : List Labels) (item at : Labels) → key ≡ item ∷ at ∷ [] → tree.Updates (slice_cmp name_cmp) old new key true
+pub tells_more : {S : Type 0} (old new : sets.HashSet Teller S) (key : Teller) (item at : Labels) → key ≡ record { server = item; origin = at } → sets.Updates teller_eq old new key true
     → (server origin : Labels) → tells new server origin ≡ (tells old server origin || (name_eq at origin && name_eq server item))
-tells_more old new key item at is updates server origin =
-    updates.0 (server ∷ origin ∷ [])
-    ∙ (λ i. cond (test i) true (tells old server origin))
+tells_more {S} old new key item at is updates server origin =
+    updates.0 (record { server = server; origin = origin })
+    ∙ ap (λ (k : Teller). cond (teller_eq k (record { server = server; origin = origin })) true (tells old server origin)) is
+    ∙ (λ i. cond ((lists_equiv nat_list_eq_equiv).symm item server i && name_eq at origin) true (tells old server origin))
     ∙ by (name_eq server item) (name_eq at origin) (tells old server origin)
   where
-    test : is_eq (slice_cmp name_cmp key (server ∷ origin ∷ [])) ≡ (name_eq server item && (name_eq at origin && true))
-    test =
-        ap (λ (k : List Labels). is_eq (slice_cmp name_cmp k (server ∷ origin ∷ []))) is
-        ∙ sym (lists_ties name_cmp (lists_ties label_cmp texts_ties) (item ∷ at ∷ []) (server ∷ origin ∷ []))
-        ∙ (λ i. (lists_equiv nat_list_eq_equiv).symm item server i && (name_eq at origin && true))
-
-    by : (a b has : Bool) → cond (a && (b && true)) true has ≡ (has || (b && a))
+    by : (a b has : Bool) → cond (a && b) true has ≡ (has || (b && a))
     by true true true = refl
     by true true false = refl
     by true false has = sym (or-false has)

@@ -1,15 +1,14 @@
 -- The views of rows' origins, shown one after the other: what a check has seen, and how a run ends among them.
-use Rattle.std.proofs.Common.{◌≡◌, ℕ, suc, ◌+◌, ◌<◌, ◌≤◌, Bool, true, false, ◌||◌, is_eq, List, [], ◌∷◌, ◌++◌, length, take, drop, get_or, Contains, refl, sym, ap, subst, ◌∙◌, inl, inr, arith}
+use Rattle.std.proofs.Common.{◌≡◌, ℕ, suc, ◌+◌, ◌<◌, ◌≤◌, Bool, true, false, ◌||◌, List, [], ◌∷◌, ◌++◌, length, take, drop, get_or, Contains, refl, sym, ap, subst, ◌∙◌, inl, inr, arith}
 use Rattle.std.specs.Prelude.{◌⊎◌}
-use Rattle.std.specs.BTreeSet as tree
-use Rattle.std.specs.Cmp.Lexicographic.{lists_equiv, lists_ties, nat_list_eq_equiv, texts_ties}
+use Rattle.std.specs.Cmp.Lexicographic.{lists_equiv, nat_list_eq_equiv}
+use Rattle.std.specs.HashSet as sets
 use Rattle.std.specs.List.{list_any}
 use Rattle.std.proofs.Math.Seq.{drop-cons}
 use Rattle.std.proofs.lemmas.List.{take-append-drop, take_more, take_all}
 use Rattle.std.proofs.lemmas.List.Elements.{Contains-append_cases, Contains-append_left, Contains-append_right}
 use Rattle.std.proofs.lemmas.List.Sums.{fold_push}
-use Rattle.dns_data.specs.Label.{label_cmp}
-use Rattle.dns_data.specs.Name.{Labels, name_cmp, name_eq}
+use Rattle.dns_data.specs.Name.{Labels, name_eq}
 use Rattle.dns_data.proofs.Membership.{none_in_nil, first_or_later, has_first}
 use Rattle.dns_data.proofs.Names.{name_eq_decides}
 use Rattle.dns_data.proofs.Searches.{from_any}
@@ -37,17 +36,16 @@ has_at_end items item = Contains-append_right items (item ∷ []) item (has_firs
 -- ---- origins that were shown
 
 -- an empty set has no origin that was shown
-pub none_shown : (shown : tree.BTreeSet Labels) → tree.IsEmpty shown → (origin : Labels) → is_shown shown origin ≡ false
-none_shown shown empty origin = ap (λ (keys : List Labels). list_any (λ (key : Labels). is_eq (name_cmp origin key)) keys) empty
+pub none_shown : {S : Type 0} (shown : sets.HashSet Labels S) → sets.IsEmpty shown → (origin : Labels) → is_shown shown origin ≡ false
+none_shown shown empty origin = ap (list_any (name_eq origin)) empty
 
 -- an origin was shown once one more was put into the set, if it was shown before or is that one
-pub shown_more : (old new : tree.BTreeSet Labels) (key origin : Labels) → key ≡ origin → tree.Updates name_cmp old new key true
+pub shown_more : {S : Type 0} (old new : sets.HashSet Labels S) (key origin : Labels) → key ≡ origin → sets.Updates name_eq old new key true
     → (other : Labels) → is_shown new other ≡ (is_shown old other || name_eq other origin)
 shown_more old new key origin is updates other =
     updates.0 other
-    ∙ (or-from_cond (is_eq (name_cmp key other)) (is_shown old other)
-    ∙ ap (λ (b : Bool). is_shown old other || b)
-    (sym (lists_ties label_cmp texts_ties key other) ∙ ((lists_equiv nat_list_eq_equiv).symm key other ∙ ap (name_eq other) is)))
+    ∙ (or-from_cond (name_eq key other) (is_shown old other)
+    ∙ ap (λ (b : Bool). is_shown old other || b) ((lists_equiv nat_list_eq_equiv).symm key other ∙ ap (name_eq other) is))
 
 abbrev Step : Type 0
 Step = List (List ℕ) → View → List (List ℕ)

@@ -56,7 +56,8 @@ placed_signer row rr = option_map_or (λ signer. record { signer = signer; place
 abbrev pub signers_of : RowFiles → List Rr → List PlacedSigner
 signers_of row rrs = flat_map (placed_signer row) rrs
 
--- a key for the zone with its digests over the origin's octets on the wire, and the place of its record; of another key nothing
+-- a key for the zone with its digests over the origin's octets on the wire, and the place of its record; of another key
+-- nothing
 abbrev pub hashed_key : RowFiles → List ℕ → Rr → Key → List PlacedKey
 hashed_key row wire rr key =
     if is_zone_key key then record { key = key; digests = digests_of wire key; place = place_columns row (Some rr) } ∷ [] else []
@@ -144,8 +145,8 @@ no_match_lines at child (first ∷ signers) = child_line NoMatch at child None f
 abbrev pub unmatched_line : SignedCut → RowFiles → PlacedSigner → Line
 unmatched_line at child one = child_line Unmatched at child (Some one.signer.tag) one.place
 
--- the lines of signers by those of them that match no key: these are all, or each has a line beside one that matches (RFC 4035
--- section 5.2)
+-- the lines of signers by those of them that match no key: these are all, or each has a line beside one that matches (RFC
+-- 4035 section 5.2)
 abbrev pub match_lines : SignedCut → RowFiles → List PlacedSigner → List PlacedSigner → List Line
 match_lines at child signers others =
     if length others == length signers then no_match_lines at child signers else map (unmatched_line at child) others

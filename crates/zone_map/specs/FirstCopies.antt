@@ -74,7 +74,8 @@ abbrev pub LikeAlone : Config → Option (Option Labels) → RowFiles → Type 0
 LikeAlone config before row =
     (server : Labels) × (before ≡ Some (Some server)) × AreLike (held_zone config server row.origin) (held_zone config row.server row.origin)
 
--- of each row it is known whether one of these rows is an equal copy, and of each origin that none of them has that it is so
+-- of each row it is known whether one of these rows is an equal copy, and of each origin that none of them has that it is
+-- so
 pub record KnowsCopies (config : Config) (rows : List RowFiles) (known : KnownCopies) : Type 0 where
   pub each : (row : RowFiles) → list_any (is_equal_copy config row) rows
       ≡ (has_key known.keys row.origin (row_version config row) || is_copy_alone config row (map.get name_cmp known.alone row.origin))

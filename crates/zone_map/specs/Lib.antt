@@ -3,6 +3,7 @@ pub use Rattle.io_edges.specs.Files
 pub use Rattle.config_load.specs.Conf
 pub use Rattle.config_load.specs.Reading
 pub use Rattle.run_endings.specs.Endings
+pub use Rattle.run_endings.specs.Runs as ProgramRuns
 pub use Rattle.run_endings.specs.Writing
 pub mod Columns
 pub mod Loaded
@@ -28,4 +29,3 @@ pub mod Outcome
 pub mod Runs
 pub mod EndsWords
 pub mod Held
-pub mod JobEnds

@@ -1,5 +1,5 @@
 -- How a run ends, by its job and by what is told of the files.
-use Rattle.std.specs.Prelude.{◌≡◌, ◌⊎◌, ℕ, List, Option, Some, None}
+use Rattle.std.specs.Prelude.{◌≡◌, ℕ, List, Option, Some, None}
 use Rattle.io_edges.specs.Counts.{Rose}
 use Rattle.io_edges.specs.Files.{FilesTold}
 use Rattle.zone_map.specs.Loaded.{loaded}
@@ -24,9 +24,9 @@ use Rattle.zone_map.specs.declared.words.MapView.TheVariants.{Records, Reached, 
 use Rattle.zone_map.specs.declared.words.MapJob.{MapJob}
 
 -- what a view prints of a configuration: for `records` the lines of all records, for `reached` the lines of all rows,
--- for `targets` the lines of the records whose target leads nowhere, for `delegations` those of the zone cuts and origins at
--- which something is told, for `copies` those of all copies, for `servers` those of all names of name servers, for `aliases` those of the aliases
--- for whose target their server answers otherwise, for `chain` those of DS records and keys
+-- for `targets` the lines of the records whose target leads nowhere, for `delegations` those of the zone cuts and origins
+-- at which something is told, for `copies` those of all copies, for `servers` those of all names of name servers, for
+-- `aliases` those of the aliases for whose target their server answers otherwise, for `chain` those of DS records and keys
 abbrev pub TellsAsked : MapView → Loaded → Ending → Type 0
 TellsAsked Records all ending = ending ≡ with_output Clean (records_text all)
 TellsAsked Reached all ending = WithinLimits all.config all.rows (TellsRows all.config all.rows ending) ending
@@ -47,10 +47,6 @@ Outcome told (Some job) ending = OfReading job.meta (TellsAsked job.asked) (load
 abbrev pub JobComesTo : FilesTold → Option MapJob → List ℕ → Type 0
 JobComesTo told None file = ⊥
 JobComesTo told (Some job) file = ComesToFile (loaded job.meta) told file
-
--- no other file is opened than those to which the job comes: of any other name the same is told as before
-abbrev pub JobOpensNoOther : FilesTold → FilesTold → Option MapJob → Type 0
-JobOpensNoOther before after job = (file : List ℕ) → (after file ≡ before file) ⊎ JobComesTo after job file
 
 -- no count of a file rose to which the job comes
 abbrev pub NoJobReadFailed : FilesTold → Option MapJob → (List ℕ → ℕ) → (List ℕ → ℕ) → Type 0

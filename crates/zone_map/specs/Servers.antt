@@ -18,12 +18,17 @@ use Rattle.name_ends.specs.declared.ends.NameEnds.{NameEnds}
 use Rattle.zone_map.specs.Asked.{ToldByEnds}
 use Rattle.zone_map.specs.Lines.{line_of, place_columns}
 use Rattle.zone_map.specs.declared.lines.Line.{Line}
-use Rattle.zone_map.specs.declared.namings.Naming.{Naming}
 use Rattle.zone_map.specs.declared.servers.ServerWord.{ServerWord}
 use Rattle.zone_map.specs.declared.servers.ServerWord.TheVariants.{Unnamed, Dead, Named, NoRow, Elsewhere}
 
--- what a record names that is an NS record at the origin or at a zone cut of a row's zone: the name server, the owner,
--- whether that is the origin, and the columns of the record's place
+-- what an NS record names: the name server, the owner, whether that is the origin, and the columns of the record's place
+pub record Naming : Type 0 where
+  pub server : Labels
+  pub owner : Labels
+  pub at_origin : Bool
+  pub place : List (List ℕ)
+
+-- what a record names that is an NS record at the origin or at a zone cut of a row's zone
 abbrev pub naming_of : RowFiles → Zone → Rr → Labels → Naming
 naming_of row zone rr server =
     record { server = server; owner = rr.owner; at_origin = name_eq rr.owner zone.origin; place = place_columns row (Some rr) }
@@ -92,17 +97,19 @@ server_counts Dead = true
 server_counts NoRow = true
 server_counts word = false
 
--- the columns of a line: a word, a name, how many different origins and how many different cuts name it, and the place of the
--- first record that does
+-- the columns of a line: a word, a name, how many different origins and how many different cuts name it, and the place of
+-- the first record that does
 abbrev pub server_columns : List ℕ → Labels → List Naming → List (List ℕ)
 server_columns word name namings =
     word ∷ name_text name ∷ decimal (owner_count true namings) ∷ decimal (owner_count false namings) ∷ first_place namings
 
+-- the line of a name with a word, by what names it
+abbrev pub word_line : ServerWord → Labels → List Naming → Line
+word_line word name namings = line_of (server_counts word) (server_columns (server_text word) name namings)
+
 -- the line of a name, by what names it
 abbrev pub server_line : NameEnds → Bool → Labels → List Naming → Line
-server_line ends configured name namings =
-    let word = server_word ends configured (length namings == 0) in
-    line_of (server_counts word) (server_columns (server_text word) name namings)
+server_line ends configured name namings = word_line (server_word ends configured (length namings == 0)) name namings
 
 -- the names that are told: those that records name, and those of the configured servers, in the order of names
 abbrev pub told_names : Loaded → List Labels

@@ -1,9 +1,9 @@
 -- For the code alone, no public clause cites it: a check that is shown the views of rows' origins, and how a run ends among
 -- them.
 use Rattle.std.specs.Prelude.{◌≡◌, ◌⊎◌, ℕ, Bool, true, List, Contains}
-use Rattle.std.specs.BTreeSet as tree
+use Rattle.std.specs.HashSet as sets
 use Rattle.std.specs.List.{fold}
-use Rattle.dns_data.specs.Name.{Labels, name_cmp}
+use Rattle.dns_data.specs.Name.{Labels, name_eq}
 use Rattle.net_model.specs.declared.class.Class.TheVariants.{Exact}
 use Rattle.net_model.specs.Learnt.{IsInForce}
 use Rattle.net_model.specs.Step.{following}
@@ -35,8 +35,8 @@ pub record HasSeenOrigin (step : List (List ℕ) → View → List (List ℕ)) (
   pub holds : after ≡ step before view
 
 -- the origin is among those that were shown
-abbrev pub is_shown : tree.BTreeSet Labels → Labels → Bool
-is_shown shown origin = tree.contains name_cmp shown origin
+abbrev pub is_shown : {S : Type 0} → sets.HashSet Labels S → Labels → Bool
+is_shown shown origin = sets.contains name_eq shown origin
 
 -- the origin was shown before, or the check was shown its view
 abbrev pub HasSeenNew : (List (List ℕ) → View → List (List ℕ)) → LimitedQueries → (Labels → Bool) → Labels → List (List ℕ) → List (List ℕ) → Type 0

@@ -1,21 +1,41 @@
 //! Servers that answer the SOA query at the origin of a zone.
 
-ghost use Rattle.std.specs.Prelude.{◌≡◌, ◌||◌, ◌++◌, ◌∷◌, [], map, IfOk, OnOk};
+ghost use Rattle.std.specs.Prelude.{◌≡◌, ◌||◌, ◌++◌, map, IfOk, OnOk};
 ghost use Rattle.std.specs.List.{flat_map};
 ghost use Rattle.dns_data.specs.Name.{Labels};
 ghost use Rattle.zone_map.specs.ReachedRows.{TellOfAnswers, answering_at, is_answering, is_row_answered, is_soa_answer, tells};
 
+use crate::name_key::NameKey;
 use config_load::RowFiles;
 use dns_data::{List, Name, NoMemory, RrType};
 use site_checks::TypedEnd;
 use std::alloc::Global;
-use std::collections::BTreeSet;
+use std::collections::HashSet;
 
 /// The origin of a zone, and the servers at which a walk of the SOA query there ends in an answer.
 #[derive(Debug, Drop)]
 pub(crate) struct Answered {
     pub origin: Name,
     pub servers: List<Name>,
+}
+
+/// A server that answers, and the origin there.
+#[derive(Debug, PartialEq, Eq, Hash, Drop)]
+pub(crate) struct Teller {
+    server: NameKey,
+    origin: NameKey,
+}
+
+impl Teller {
+    /// What tells of a server and of an origin: both names.
+    fn of(alloc: Global, server: &Name, origin: &Name) -> Result<Teller, NoMemory>
+        ensures { IfOk result (λ teller. teller ≡ record { server = server.now; origin = origin.now }) }
+    {
+        Ok(Teller {
+            server: NameKey::of(alloc, server)?,
+            origin: NameKey::of(alloc, origin)?,
+        })
+    }
 }
 
 /// The servers that answer at the origin, by the ends of the walks of its query.
@@ -61,8 +81,8 @@ fn is_soa_answer(end: &TypedEnd) -> bool
     end.rtype.number() == RrType::Soa.number() && end.is_answer()
 }
 
-/// Of each row whether its server is one of those that answer at the origin of its zone. They are put in order once, and
-/// each row is looked for.
+/// Of each row whether its server is one of those that answer at the origin of its zone. They are put into a set once, in
+/// which each row is looked for.
 pub(crate) fn rows_told(
     alloc: Global,
     rows: &[RowFiles],
@@ -75,10 +95,10 @@ pub(crate) fn rows_told(
 }
 
 /// What tells of each server that answers, and of the origin there.
-fn tellers_of(alloc: Global, answered: &[Answered]) -> Result<BTreeSet<List<Name>>, NoMemory>
+fn tellers_of(alloc: Global, answered: &[Answered]) -> Result<HashSet<Teller>, NoMemory>
     ensures { IfOk result (TellOfAnswers answered.now) }
 {
-    let mut tellers = BTreeSet::new(alloc);
+    let mut tellers = HashSet::new(alloc);
     for one in answered {
         put_tellers(alloc, one, &mut tellers)?;
     }
@@ -86,34 +106,20 @@ fn tellers_of(alloc: Global, answered: &[Answered]) -> Result<BTreeSet<List<Name
 }
 
 /// Puts what tells of the servers that answer at an origin to the others.
-fn put_tellers(
-    alloc: Global,
-    one: &Answered,
-    tellers: &mut BTreeSet<List<Name>>,
-) -> Result<(), NoMemory>
+fn put_tellers(alloc: Global, one: &Answered, tellers: &mut HashSet<Teller>) -> Result<(), NoMemory>
     ensures { OnOk result ((server origin : Labels) → tells tellers.new server origin ≡ (tells tellers.old server origin || is_answering server origin one.now)) }
 {
     for server in one.servers.items() {
-        tellers.insert(teller(alloc, server, &one.origin)?)?;
+        tellers.insert(Teller::of(alloc, server, &one.origin)?)?;
     }
     Ok(())
-}
-
-/// What tells of a server and of an origin: both names.
-fn teller(alloc: Global, server: &Name, origin: &Name) -> Result<List<Name>, NoMemory>
-    ensures { IfOk result (λ teller. teller ≡ server.now ∷ origin.now ∷ []) }
-{
-    let mut teller = List::new(alloc);
-    teller.push(server.copy(alloc)?)?;
-    teller.push(origin.copy(alloc)?)?;
-    Ok(teller)
 }
 
 /// Of each row whether these tell of its server and of the origin of its zone.
 fn told_by(
     alloc: Global,
     rows: &[RowFiles],
-    tellers: &BTreeSet<List<Name>>,
+    tellers: &HashSet<Teller>,
 ) -> Result<Vec<bool>, NoMemory>
     ensures { IfOk result (λ told. told.items ≡ map (λ row. tells tellers.now row.server row.origin) rows.now) }
 {
@@ -125,13 +131,9 @@ fn told_by(
 }
 
 /// Whether these tell of the row's server and of the origin of its zone.
-fn has_teller(
-    alloc: Global,
-    tellers: &BTreeSet<List<Name>>,
-    row: &RowFiles,
-) -> Result<bool, NoMemory>
+fn has_teller(alloc: Global, tellers: &HashSet<Teller>, row: &RowFiles) -> Result<bool, NoMemory>
     ensures { IfOk result (λ told. told ≡ tells tellers.now row.now.server row.now.origin) }
 {
-    let own = teller(alloc, &row.server, &row.origin)?;
+    let own = Teller::of(alloc, &row.server, &row.origin)?;
     Ok(tellers.contains(&own))
 }

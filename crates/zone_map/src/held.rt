@@ -35,7 +35,7 @@ impl<'a> HeldZones<'a> {
     pub(crate) fn of(alloc: Global, config: &'a Config) -> Result<HeldZones<'a>, NoMemory>
         ensures { IfOk result (λ held. held ≡ config.entry.now) }
     {
-        let found = zones_by_server(alloc, config.servers.items())?;
+        let found = zones_by_server(alloc, config.servers())?;
         Ok(HeldZones { config, found })
     }
 

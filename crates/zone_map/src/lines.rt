@@ -1,15 +1,16 @@
 //! The lines of a word.
 
-ghost use Rattle.std.specs.Prelude.{◌≡◌, ◌⊎◌, ◌++◌, ◌∷◌, [], decimal, IfOk, OnOk};
+ghost use Rattle.std.specs.Prelude.{◌≡◌, ◌⊎◌, ◌++◌, ◌∷◌, [], Some, decimal, IfOk, OnOk};
 ghost use Rattle.std.specs.List.{flat_map, list_any};
 ghost use Rattle.std.specs.Option.{option_map};
+ghost use Rattle.config_load.specs.Faults.{name_numbered};
 ghost use Rattle.dns_data.specs.DataText.{separated};
 ghost use Rattle.dns_data.specs.Spelling.{name_text};
 ghost use Rattle.run_endings.specs.Endings.{no_memory};
-ghost use Rattle.zone_map.specs.Columns.{columns_line, file_text};
+ghost use Rattle.zone_map.specs.Columns.{columns_line, file_text, tab};
 ghost use Rattle.zone_map.specs.Lines.{line_of, lines_status, lines_text, place_columns, with_lines};
 
-use crate::columns::{put_file, put_name, put_number};
+use crate::columns::{put_file, put_name, put_number, put_tab};
 use crate::records::file_numbered;
 use config_load::RowFiles;
 use dns_data::{List, Name, NoMemory, Octets, Rr};
@@ -101,7 +102,7 @@ pub(crate) fn put_columns_between(
 }
 
 /// Puts columns at the end, each behind these octets.
-pub(crate) fn put_behind(
+fn put_behind(
     alloc: Global,
     text: &mut Octets,
     between: &[u8],
@@ -203,6 +204,40 @@ pub(crate) fn put_place(
             put_octets(alloc, columns, b"")
         }
     }
+}
+
+/// Puts the columns of a record's place at the end, each behind a tab.
+pub(crate) fn put_place_behind(
+    alloc: Global,
+    text: &mut Octets,
+    row: &RowFiles,
+    rr: &Rr,
+) -> Result<(), NoMemory>
+    ensures { OnOk result (text.new ≡ text.old ++ flat_map (λ next. tab ++ next) (place_columns row.now (Some rr.now))) }
+{
+    put_file_behind(alloc, text, row, rr)?;
+    put_line_behind(alloc, text, rr)
+}
+
+/// Puts the name of a record's file at the end, behind a tab.
+fn put_file_behind(
+    alloc: Global,
+    text: &mut Octets,
+    row: &RowFiles,
+    rr: &Rr,
+) -> Result<(), NoMemory>
+    ensures { OnOk result (text.new ≡ text.old ++ (tab ++ file_text (name_numbered row.now.files rr.now.file))) }
+{
+    put_tab(alloc, text)?;
+    put_file(alloc, text, file_numbered(row.files.items(), rr.file))
+}
+
+/// Puts a record's line at the end, behind a tab.
+fn put_line_behind(alloc: Global, text: &mut Octets, rr: &Rr) -> Result<(), NoMemory>
+    ensures { OnOk result (text.new ≡ text.old ++ (tab ++ decimal rr.now.line)) }
+{
+    put_tab(alloc, text)?;
+    put_number(alloc, text, u64::from(rr.line))
 }
 
 /// The first columns of a line: a word, and the row's server and zone.

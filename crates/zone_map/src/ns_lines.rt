@@ -233,7 +233,7 @@ fn side_flags(
 fn is_known(hosts: &Hosts<'_>, ns: &Name) -> bool
     ensures { result ≡ (is_configured hosts.now ns.now || is_top hosts.now ns.now) }
 {
-    hosts.host(ns).is_some() || is_among(hosts.config().tops.items(), ns)
+    hosts.host(ns).is_some() || is_among(hosts.config().tops(), ns)
 }
 
 /// What a referral shows, where all is asked. The sets of learnt addresses are empty: which they are doesn't matter to what
@@ -309,7 +309,7 @@ fn is_asked(hosts: &Hosts<'_>, at: &RowZone<'_, '_>) -> bool
     ensures { result ≡ is_asked hosts.now at.now.row at.now.zone }
 {
     let server = &at.row().server;
-    is_among(hosts.config().tops.items(), server) || is_named(at.origin_servers(), server)
+    is_among(hosts.config().tops(), server) || is_named(at.origin_servers(), server)
 }
 
 /// Puts the line of such a zone cut at the end, at the place of its first name server.

@@ -6,6 +6,7 @@ ghost use Rattle.query_verdicts.specs.Queries.{ServerPasses};
 ghost use Rattle.site_checks.specs.declared.views.View.{View as Seen};
 ghost use Rattle.zone_map.specs.ShownOrigins.{EndsAmongRows, EndsAt, HasSeenNew, HasSeenOrigin, HasSeenOrigins, is_shown};
 
+use crate::name_key::NameKey;
 use config_load::RowFiles;
 use dns_data::{Name, NoMemory};
 use interp_graph::GraphFault;
@@ -14,7 +15,7 @@ use query_verdicts::{MOST_STATES, QueryGraphs};
 use run_endings::Ending;
 use site_checks::{SiteCheck, view};
 use std::alloc::Global;
-use std::collections::BTreeSet;
+use std::collections::HashSet;
 
 /// Shows a check the view of each row's origin, each origin once, in the order of rows, up to the first that reaches too
 /// many pairs of state and type; then it is how the run ends.
@@ -29,7 +30,7 @@ pub(crate) fn show_origins<S: SiteCheck>(
     ensures ok { OnOk result (HasSeenOrigins (S.step check.old) graphs.now rows.now (S.held check.old) (S.held check.new)) }
     ensures err { IfErr result (EndsAmongRows graphs.now rows.now) }
 {
-    let mut shown = BTreeSet::new(alloc);
+    let mut shown = HashSet::new(alloc);
     for row in rows {
         show_new(alloc, graphs, &mut shown, &row.origin, check)?;
     }
@@ -40,7 +41,7 @@ pub(crate) fn show_origins<S: SiteCheck>(
 fn show_new<S: SiteCheck>(
     alloc: Global,
     graphs: &QueryGraphs<'_>,
-    shown: &mut BTreeSet<Name>,
+    shown: &mut HashSet<NameKey>,
     origin: &Name,
     check: &mut S,
 ) -> Result<(), Ending>
@@ -57,11 +58,11 @@ fn show_new<S: SiteCheck>(
 }
 
 /// Keeps that an origin was shown, and answers whether it wasn't before.
-fn put_shown(alloc: Global, shown: &mut BTreeSet<Name>, origin: &Name) -> Result<bool, NoMemory>
+fn put_shown(alloc: Global, shown: &mut HashSet<NameKey>, origin: &Name) -> Result<bool, NoMemory>
     ensures new { IfOk result (λ is_new. is_new ≡ not (is_shown shown.old origin.now)) }
     ensures shown { OnOk result ((other : Labels) → is_shown shown.new other ≡ (is_shown shown.old other || name_eq other origin.now)) }
 {
-    Ok(shown.insert(origin.copy(alloc)?)?)
+    Ok(shown.insert(NameKey::of(alloc, origin)?)?)
 }
 
 /// Shows a check the view of an origin.

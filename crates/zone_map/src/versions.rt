@@ -25,8 +25,8 @@ pub(crate) struct CopyKey {
     pub others: List<Octets>,
 }
 
-/// What is known of rows to tell equal copies. Of each origin: the server of the row with it, where that is the only one, so
-/// that no version is made of a zone without a copy; else none. And what the zones of the other rows have in common with
+/// What is known of rows to tell equal copies. Of each origin: the server of the row with it, where that is the only one,
+/// so that no version is made of a zone without a copy; else none. And what the zones of the other rows have in common with
 /// their copies.
 #[derive(Drop)]
 pub(crate) struct KnownCopies {

@@ -11,6 +11,6 @@ returns c =
     let config = c.args.hosts.now in
     let name = c.args.name.now in
     let seen = c.in_ok-seen.seen in
-    let tops : c.items-tops.result.now ≡ config.tops = c.items-tops.ensures ∙ ap (λ (one : Config). one.tops) c.config.ensures in
-    let few : length c.items-tops.result.now ≤ 8 = grind (arith, nat_tests, c.if-tops-gt-MOST_TOPS.false) in
+    let tops : c.tops-tops.result.now ≡ config.tops = c.tops-tops.ensures ∙ ap (λ (one : Config). one.tops) c.config.ensures in
+    let few : length c.tops-tops.result.now ≤ 8 = grind (arith, nat_tests, c.if-tops-gt-MOST_TOPS.false) in
     all_at_once config name seen (subst (λ (all : List Labels). length all ≤ 8) tops few) (subst (λ (all : List Labels). AreSeen config name all seen) tops c.in_ok-seen.ensures)

@@ -21,7 +21,7 @@ loop-server-preserved c = λ server origin.
     let item = c.server-item.result in
     let was = tells c.args.tellers.now server origin in
     let some = list_any (name_eq server) (take i servers) in
-    tells_more c.loop-server.tellers c.insert.new.self c.in_ok-teller.field-0 item at c.in_ok-teller.ensures c.in_ok-insert.ensures.updates server origin
+    tells_more c.loop-server.tellers c.insert.new.self c.in_ok-of.field-0 item at c.in_ok-of.ensures c.in_ok-insert.ensures.updates server origin
     ∙ ap (λ (b : Bool). b || (name_eq at origin && name_eq server item)) (c.loop-server.invariant server origin)
     ∙ servers_more was (name_eq at origin) some (name_eq server item)
     ∙ ap (λ (b : Bool). was || (name_eq at origin && b)) (any-next (name_eq server) servers i item some c.loop-server-test.true c.server-item.is refl)

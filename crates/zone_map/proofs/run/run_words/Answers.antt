@@ -1,40 +1,28 @@
-use Rattle.std.proofs.Common.{Option, inl, inr, refl, ap, subst, sym, ◌∙◌}
+use Rattle.std.proofs.Common.{Option, refl, ap, subst, sym, ◌∙◌}
+use Rattle.run_endings.proofs.Written.{nothing_done}
 use Rattle.run_endings.specs.Endings.{without_output}
+use Rattle.run_endings.specs.Runs.{files_of}
 use Rattle.run_endings.specs.declared.status.Status.TheVariants.{Usage}
-use Rattle.zone_map.proofs.Endings.{as_asked}
-use Rattle.zone_map.specs.JobEnds.{JobEnds}
-use Rattle.zone_map.specs.Outcome.{JobOpensNoOther}
+use Rattle.zone_map.proofs.Endings.{without_job}
+use Rattle.zone_map.specs.Runs.{JobEnds}
 use Rattle.zone_map.specs.declared.words.MapJob.{MapJob}
 use Rattle.zone_map.proofs.run.run_words.Goals as goal
 
 pub returns-in-Ok-Some : goal.returns-in-Ok-Some
 returns-in-Ok-Some g c =
-    let same = sym c.in-Ok-Some.ensures ∙ c.in-Ok-Some.field-0-is in
-    let told = g.F.Files.told c.args.files.now in
-    let after = g.F.Files.told c.of_job.new.files in
-    let before = g.F.Files.faults c.args.files.now in
-    let faults = g.F.Files.faults c.of_job.new.files in
+    let files = files_of g.F.Files.told g.F.Files.faults c.args.files.now c.of_job.new.files in
     record {
-      run =
-          as_asked after _ before faults c.of_job.result
-          (subst (λ (job : Option MapJob). JobEnds after job before faults c.of_job.result) (sym same) c.of_job.ensures.cause)
-          told c.of_job.ensures.from_the_start (subst (λ (job : Option MapJob). JobOpensNoOther told after job) (sym same) c.of_job.ensures.opens);
+      run = subst (λ (job : Option MapJob). JobEnds job files c.of_job.result) (sym c.in-Ok-Some.field-0-is ∙ c.in-Ok-Some.ensures) c.of_job.ensures;
     }
 
 pub returns-in-Ok-None : goal.returns-in-Ok-None
 returns-in-Ok-None g c =
-    let same = sym c.in-Ok-None.ensures ∙ c.in-Ok-None.field-0-is in
-    let told = g.F.Files.told c.args.files.now in
-    let faults = g.F.Files.faults c.args.files.now in
+    let files = files_of g.F.Files.told g.F.Files.faults c.args.files.now c.args.files.now in
     record {
       run =
-          as_asked told _ faults faults c.usage.result
-          (subst (λ (job : Option MapJob). JobEnds told job faults faults c.usage.result) (sym same) (inl (c.usage.ensures ∙ ap (without_output Usage) c.usage_line.ensures)))
-          told (λ tells. refl) (λ file. inl refl);
+          subst (λ (job : Option MapJob). JobEnds job files c.usage.result) (sym c.in-Ok-None.field-0-is ∙ c.in-Ok-None.ensures)
+          (without_job files c.usage.result refl (c.usage.ensures ∙ ap (without_output Usage) c.usage_line.ensures));
     }
 
 pub returns-in-Err : goal.returns-in-Err
-returns-in-Err g c =
-    let told = g.F.Files.told c.args.files.now in
-    let faults = g.F.Files.faults c.args.files.now in
-    record { run = as_asked told _ faults faults c.no_memory.result (inr (inr c.no_memory.ensures)) told (λ tells. refl) (λ file. inl refl) }
+returns-in-Err g c = record { run = nothing_done _ _ _ c.no_memory.result refl c.no_memory.ensures }

@@ -3,8 +3,7 @@ use Rattle.std.specs.List.{flat_map}
 use Rattle.std.proofs.lemmas.Result.{on_ok_weaker}
 use Rattle.dns_data.specs.Spelling.{name_text}
 use Rattle.zone_map.specs.Columns.{tab}
-use Rattle.zone_map.specs.Servers.{first_place}
-use Rattle.zone_map.specs.declared.namings.Naming.{Naming}
+use Rattle.zone_map.specs.Servers.{Naming, first_place}
 use Rattle.zone_map.proofs.ColumnTexts.{four_and_more}
 use Rattle.zone_map.proofs.servers.put_columns.Goals as goal
 
