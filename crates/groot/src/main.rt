@@ -4,6 +4,7 @@
 ghost use Rattle.std.specs.Prelude.{map};
 ghost use Rattle.std.specs.String.{string_bytes};
 ghost use Rattle.groot_line.specs.declared.program.Program.TheVariants.{Groot};
+ghost use Rattle.run_endings.specs.Runs.{files_of, output_of};
 ghost use Rattle.groot_run.specs.Runs.{RunsAsAsked};
 
 use dns_data::NoMemory;
@@ -66,10 +67,7 @@ fn run<F: Files, O: Sink, E: Sink, R: Threads + Wait + Sync>(
     sites: Vec<Box<dyn SiteCheck>>,
 ) -> Status
     ensures { RunsAsAsked Groot (map string_bytes words.now) (map (λ b. record { name = name b; held = held b; step = step b }) sites.items)
-        (record { told_before = F.told files.old; told_after = F.told files.new; failed_before = F.faults files.old; failed_after = F.faults files.new })
-        (record { taken_before = O.taken out.old; taken_after = O.taken out.new; passed_before = O.passed out.old; passed_after = O.passed out.new; failed_before = O.faults out.old; failed_after = O.faults out.new })
-        (record { taken_before = E.taken err.old; taken_after = E.taken err.new; passed_before = E.passed err.old; passed_after = E.passed err.new; failed_before = E.faults err.old; failed_after = E.faults err.new })
-        result }
+        (files_of F.told F.faults files.old files.new) (output_of O.taken O.passed O.faults out.old out.new) (output_of E.taken E.passed E.faults err.old err.new) result }
 {
     match borrowed_words(alloc, words) {
         Ok(words) => {

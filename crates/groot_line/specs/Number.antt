@@ -12,8 +12,8 @@ use Rattle.groot_line.specs.declared.program.Program.{Program}
 abbrev pub unless_zero : ℕ → Option ℕ
 unless_zero number = if number == 0 then None else Some number
 
--- the number from 1 up to the most that a word writes in decimal digits, leading zeros among them: one digit at least, and no
--- more than the program reads
+-- the number from 1 up to the most that a word writes in decimal digits, leading zeros among them: one digit at least, and
+-- no more than the program reads
 abbrev pub number_to : Program → ℕ → List ℕ → Option ℕ
 number_to program most word = option_and_then unless_zero (number_up_to (most_digits program) most word)
 

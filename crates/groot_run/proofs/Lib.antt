@@ -5,6 +5,7 @@ pub mod ComparedTrees
 pub mod Endings
 pub mod JudgedScopes
 pub mod HandedChecks
+pub mod HeldViews
 pub mod JudgedTrees
 mod KeptPieces
 pub mod OneClassList

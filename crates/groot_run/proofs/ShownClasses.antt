@@ -15,7 +15,7 @@ use Rattle.net_model.specs.declared.class.Class.TheVariants.{Exact, Below}
 use Rattle.net_model.specs.Step.{Setting, following}
 use Rattle.query_classes.specs.ClassList.{ListedClass, class_below, classes_of_row, classes_of_rows}
 use Rattle.query_classes.specs.declared.tree.ClassRow.{ClassRow}
-use Rattle.query_verdicts.specs.Queries.{LimitedQueries, IsLeastGraph, Passes}
+use Rattle.query_verdicts.specs.Queries.{LimitedQueries, IsLeastGraph, Passes, ServerPasses}
 use Rattle.site_checks.specs.Ends.{AreEnds}
 use Rattle.site_checks.specs.Shown.{HasSeen}
 use Rattle.site_checks.specs.declared.views.View.{View}
@@ -195,12 +195,10 @@ module _ (queries : LimitedQueries) where
           };
     }
 
-    -- checks were shown the view of one class, whose representative doesn't pass, by the graph of its walks
-    pub shown_one : (class : Class) (query : Labels) (graph : PlainGraph) (view : View) (a b : List B) → IsLeastGraph queries.config queries.rewrites query graph
-        → (Passes queries query → ⊥) → view.class ≡ class → view.query ≡ query
-        → ((setting : Setting) → IsGraphOf setting query graph → AreEnds setting query view.ends)
-        → AllZip (HasSeen name held step (view ∷ [])) a b → AreShown name held step queries (record { class = class; representative = query } ∷ []) a b
-    shown_one class query graph view a b is few of_class of_query ends seen = record {
+    -- checks were shown the view of one class, whose representative doesn't pass
+    pub shown_view : (class : Class) (query : Labels) (view : View) (a b : List B) → (Passes queries query → ⊥) → view.class ≡ class → view.query ≡ query
+        → HasEnds queries view → AllZip (HasSeen name held step (view ∷ [])) a b → AreShown name held step queries (record { class = class; representative = query } ∷ []) a b
+    shown_view class query view a b few of_class of_query has seen = record {
       none_passes = none_of_one class query few;
       shown = λ clear. record {
         views = view ∷ [];
@@ -208,17 +206,27 @@ module _ (queries : LimitedQueries) where
         seen = seen;
       };
     } where
-      setting : Setting
-      setting = following queries.config queries.rewrites is.followed
-
-      has : HasEnds queries view
-      has = record { followed = is.followed; in_force = is.in_force; ends = subst (λ (name : Labels). AreEnds setting name view.ends) (sym of_query) (ends setting is.is_graph) }
-
       have : (other : View) → Contains (view ∷ []) other → HasEnds queries other
       have other among = elim (first_or_later view [] other among) [
         | inl same ↦ subst (HasEnds queries) same has
         | inr none ↦ absurd (none_in_nil other none)
       ]
+
+    -- where the name of some server passes, none need be shown
+    pub shown_no_view : (class : Class) (query : Labels) (all : List B) → (Passes queries query → ⊥) → ServerPasses queries
+        → AreShown name held step queries (record { class = class; representative = query } ∷ []) all all
+    shown_no_view class query all few passes = record { none_passes = none_of_one class query few; shown = λ clear. absurd (clear passes) }
+
+    -- checks were shown the view of one class, whose representative doesn't pass, by the graph of its walks
+    pub shown_one : (class : Class) (query : Labels) (graph : PlainGraph) (view : View) (a b : List B) → IsLeastGraph queries.config queries.rewrites query graph
+        → (Passes queries query → ⊥) → view.class ≡ class → view.query ≡ query
+        → ((setting : Setting) → IsGraphOf setting query graph → AreEnds setting query view.ends)
+        → AllZip (HasSeen name held step (view ∷ [])) a b → AreShown name held step queries (record { class = class; representative = query } ∷ []) a b
+    shown_one class query graph view a b is few of_class of_query ends seen =
+        let setting : Setting = following queries.config queries.rewrites is.followed in
+        shown_view class query view a b few of_class of_query
+        (record { followed = is.followed; in_force = is.in_force; ends = subst (λ (name : Labels). AreEnds setting name view.ends) (sym of_query) (ends setting is.is_graph) })
+        seen
 
     -- ---- of the classes of a row
 

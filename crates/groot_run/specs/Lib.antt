@@ -6,6 +6,7 @@ pub use Rattle.config_load.specs.Limits
 pub use Rattle.config_load.specs.Load
 pub use Rattle.config_load.specs.Reading
 pub use Rattle.run_endings.specs.Endings
+pub use Rattle.run_endings.specs.Runs as ProgramRuns
 pub use Rattle.run_endings.specs.Writing
 pub use Rattle.groot_line.specs.Job
 pub use Rattle.groot_line.specs.Program
@@ -22,3 +23,4 @@ pub mod ClassRows
 pub mod Counted
 pub mod JobEnds
 pub mod ShownClasses
+pub mod HeldView

@@ -40,7 +40,7 @@ use Rattle.groot_line.specs.declared.job.Task.TheVariants as tasks
 use Rattle.groot_line.specs.declared.program.Program.{Program}
 use Rattle.run_endings.specs.declared.ending.Ending.{Ending}
 use Rattle.run_endings.specs.declared.status.Status.{Status}
-use Rattle.run_endings.specs.Endings.{OfReading, with_output, without_output, read_failed, no_memory, too_many_names, too_many_states as too_many_states_than, too_many_to_learn}
+use Rattle.run_endings.specs.Endings.{OfReading, with_output, without_output, no_memory, too_many_names, too_many_states as too_many_states_than, too_many_to_learn}
 use Rattle.run_endings.specs.declared.status.Status.TheVariants.{Clean, Faults, Usage, Refused, Walks}
 use Rattle.job_scope.specs.Scoped.{scoped}
 use Rattle.same_answers.specs.Compared.{Compared, joint}
@@ -357,11 +357,6 @@ Outcome program told (Ok (jobs.Drill zones workers)) sites ending = OfReading (c
 Outcome program told (Ok (jobs.Recheck meta report)) sites ending = OfReading meta (Rechecks program told report) (conf_of program meta told) ending
 Outcome program told (Ok (jobs.Same first second)) sites ending = OfReading first (ComparesWith program told second) (conf_of program first told) ending
 Outcome program told job sites ending = ending ≡ usage program
-
--- a run ends in the outcome of its job, in a failed read or because memory ran out
-abbrev pub IsEnding : Program → FilesTold → Result Job LineFault → List Site → Ending → Type 0
-IsEnding program told job sites ending =
-    Outcome program told job sites ending ⊎ ((file : List ℕ) × (ending ≡ read_failed file)) ⊎ (ending ≡ no_memory)
 
 -- ---- failed reads
 

@@ -1,6 +1,7 @@
 //! The list of classes of query names.
 
 ghost use Rattle.std.specs.Prelude.{◌≡◌, ◌⊎◌, ◌++◌, [], IfOk, IfErr, OnOk};
+ghost use Rattle.label_graph.specs.Pairs.{AreSame};
 ghost use Rattle.net_model.specs.declared.class.Class.TheVariants.{Exact, Below};
 ghost use Rattle.groot_run.specs.ClassList.{class_line, class_list_text};
 ghost use Rattle.groot_run.specs.ClassRows.{rows_text};
@@ -12,12 +13,14 @@ ghost use Rattle.run_endings.specs.Endings.{no_memory};
 ghost use Rattle.groot_run.specs.Counted.{EndsPast};
 ghost use Rattle.groot_run.specs.Outcome.{HasMoreNames, ListsClasses};
 
+use base_names::base_graph;
 use dns_data::{List, Name, NoMemory, Octets};
 use label_graph::LabelGraph;
 use net_model::Config;
 use query_classes::{ClassRow, TreeFault, class_tree};
 use run_endings::{Ending, Status};
 use std::alloc::Global;
+use zone_lookup::Hosts;
 
 /// The list of the configuration's classes, unless its class tree has more names than the limit.
 pub(crate) fn list_classes(alloc: Global, config: &Config, limit: u32) -> Ending
@@ -40,10 +43,18 @@ pub(crate) fn rows_within(
     ensures err { IfErr result (EndsPast (IsInTree (ground_of config.now)) limit) }
 {
     let top = Name::root();
-    match LabelGraph::of_config(alloc, config) {
+    match names_of(alloc, config) {
         Ok(graph) => rows_at(alloc, &graph, &top, limit),
         Err(NoMemory) => Err(Ending::no_memory()),
     }
+}
+
+/// The graph of the configuration's base names.
+fn names_of(alloc: Global, config: &Config) -> Result<LabelGraph, NoMemory>
+    ensures { IfOk result (λ graph. AreSame graph (ground_of config.now)) }
+{
+    let hosts = Hosts::build(alloc, config)?;
+    base_graph(alloc, &hosts)
 }
 
 /// The rows of the part of a class tree at or below a name, or how a run ends since it has more names than the limit.

@@ -80,8 +80,7 @@ pub(crate) fn config_redirects(config: &Config) -> bool
     ensures { result ≡ config_redirects config.now }
 {
     config
-        .servers
-        .items()
+        .servers()
         .iter()
         .any(|server| server_redirects(server))
 }

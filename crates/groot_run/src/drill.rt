@@ -113,7 +113,7 @@ fn records(config: &Config) -> u64
     ensures { result ≡ min (record_count config.now.servers) last_count }
 {
     let mut count = 0;
-    for server in config.servers.items() {
+    for server in config.servers() {
         count = server_records(server, count);
     }
     count

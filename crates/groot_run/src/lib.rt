@@ -11,6 +11,7 @@ mod counted;
 mod counts;
 mod drill;
 mod ending;
+mod held_view;
 mod job;
 mod judging;
 mod kept_text;

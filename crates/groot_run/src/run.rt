@@ -1,14 +1,15 @@
 //! The top call.
 
 ghost use Rattle.std.specs.Prelude.{[], map};
+ghost use Rattle.run_endings.specs.Runs.{files_of, output_of};
 ghost use Rattle.groot_run.specs.Runs.{WritesReport, EndsInReport, RunsAsAsked, EndsAsAsked};
 
 use crate::ending::usage;
 use crate::job::of_job;
 use crate::laws;
 use groot_line::{LineFault, Program, read_words_of};
-use io_edges::{Failed, Files, Gate, Sink};
-use run_endings::{Ending, Status, tell, write_text};
+use io_edges::{Files, Gate, Sink};
+use run_endings::{Ending, Status, write_ending};
 use site_checks::SiteCheck;
 use std::alloc::Global;
 use std::sync::Wait;
@@ -33,30 +34,16 @@ pub fn run_program<F: Files, O: Sink, E: Sink, G: Gate + Sync, R: Threads + Wait
     // and passed on exactly the text of their report. So it is for every number of workers and every schedule, if the call
     // returns.
     ensures headline { WritesReport program (map (λ word. word.now) words.now)
-        (record { told_before = F.told files.old; told_after = F.told files.new; failed_before = F.faults files.old; failed_after = F.faults files.new })
-        (record { taken_before = O.taken out.old; taken_after = O.taken out.new; passed_before = O.passed out.old; passed_after = O.passed out.new; failed_before = O.faults out.old; failed_after = O.faults out.new })
-        result }
+        (files_of F.told F.faults files.old files.new) (output_of O.taken O.passed O.faults out.old out.new) result }
 
     // Where nothing failed, the run is the outcome of the words' job, and out passed on exactly its text; else the run says
     // why.
     ensures run { RunsAsAsked program (map (λ word. word.now) words.now) (map (λ b. record { name = name b; held = held b; step = step b }) sites.items)
-        (record { told_before = F.told files.old; told_after = F.told files.new; failed_before = F.faults files.old; failed_after = F.faults files.new })
-        (record { taken_before = O.taken out.old; taken_after = O.taken out.new; passed_before = O.passed out.old; passed_after = O.passed out.new; failed_before = O.faults out.old; failed_after = O.faults out.new })
-        (record { taken_before = E.taken err.old; taken_after = E.taken err.new; passed_before = E.passed err.old; passed_after = E.passed err.new; failed_before = E.faults err.old; failed_after = E.faults err.new })
-        result }
+        (files_of F.told F.faults files.old files.new) (output_of O.taken O.passed O.faults out.old out.new) (output_of E.taken E.passed E.faults err.old err.new) result }
 {
     laws::query_classes();
     let ending = run_words(rt, alloc, program, words, files, gate, sites);
-    match write_text(out, &ending.out) {
-        Ok(()) => {
-            tell(err, ending.err.octets());
-            ending.status
-        }
-        Err(Failed) => {
-            tell(err, b"output failed\n");
-            Status::WriteFault
-        }
-    }
+    write_ending(out, err, ending)
 }
 
 /// Does what `run_program` does for `groot`.
@@ -74,17 +61,12 @@ pub fn groot_with_sites<F: Files, O: Sink, E: Sink, G: Gate + Sync, R: Threads +
     // and passed on exactly the text of their report. So it is for every number of workers and every schedule, if the call
     // returns.
     ensures headline { WritesReport Program.Groot (map (λ word. word.now) words.now)
-        (record { told_before = F.told files.old; told_after = F.told files.new; failed_before = F.faults files.old; failed_after = F.faults files.new })
-        (record { taken_before = O.taken out.old; taken_after = O.taken out.new; passed_before = O.passed out.old; passed_after = O.passed out.new; failed_before = O.faults out.old; failed_after = O.faults out.new })
-        result }
+        (files_of F.told F.faults files.old files.new) (output_of O.taken O.passed O.faults out.old out.new) result }
 
     // Where nothing failed, the run is the outcome of the words' job, and out passed on exactly its text; else the run says
     // why.
     ensures run { RunsAsAsked Program.Groot (map (λ word. word.now) words.now) (map (λ b. record { name = name b; held = held b; step = step b }) sites.items)
-        (record { told_before = F.told files.old; told_after = F.told files.new; failed_before = F.faults files.old; failed_after = F.faults files.new })
-        (record { taken_before = O.taken out.old; taken_after = O.taken out.new; passed_before = O.passed out.old; passed_after = O.passed out.new; failed_before = O.faults out.old; failed_after = O.faults out.new })
-        (record { taken_before = E.taken err.old; taken_after = E.taken err.new; passed_before = E.passed err.old; passed_after = E.passed err.new; failed_before = E.faults err.old; failed_after = E.faults err.new })
-        result }
+        (files_of F.told F.faults files.old files.new) (output_of O.taken O.passed O.faults out.old out.new) (output_of E.taken E.passed E.faults err.old err.new) result }
 {
     run_program(
         rt,
@@ -113,17 +95,12 @@ pub fn groot<F: Files, O: Sink, E: Sink, G: Gate + Sync, R: Threads + Wait + Syn
     // and passed on exactly the text of their report. So it is for every number of workers and every schedule, if the call
     // returns.
     ensures headline { WritesReport Program.Groot (map (λ word. word.now) words.now)
-        (record { told_before = F.told files.old; told_after = F.told files.new; failed_before = F.faults files.old; failed_after = F.faults files.new })
-        (record { taken_before = O.taken out.old; taken_after = O.taken out.new; passed_before = O.passed out.old; passed_after = O.passed out.new; failed_before = O.faults out.old; failed_after = O.faults out.new })
-        result }
+        (files_of F.told F.faults files.old files.new) (output_of O.taken O.passed O.faults out.old out.new) result }
 
     // Where nothing failed, the run is the outcome of the words' job, and out passed on exactly its text; else the run says
     // why.
     ensures run { RunsAsAsked Program.Groot (map (λ word. word.now) words.now) []
-        (record { told_before = F.told files.old; told_after = F.told files.new; failed_before = F.faults files.old; failed_after = F.faults files.new })
-        (record { taken_before = O.taken out.old; taken_after = O.taken out.new; passed_before = O.passed out.old; passed_after = O.passed out.new; failed_before = O.faults out.old; failed_after = O.faults out.new })
-        (record { taken_before = E.taken err.old; taken_after = E.taken err.new; passed_before = E.passed err.old; passed_after = E.passed err.new; failed_before = E.faults err.old; failed_after = E.faults err.new })
-        result }
+        (files_of F.told F.faults files.old files.new) (output_of O.taken O.passed O.faults out.old out.new) (output_of E.taken E.passed E.faults err.old err.new) result }
 {
     let none = Vec::new(alloc);
     groot_with_sites(rt, alloc, words, files, out, err, gate, none)
@@ -141,14 +118,11 @@ pub fn run_words<F: Files, G: Gate + Sync, R: Threads + Wait + Sync>(
     sites: Vec<Box<dyn SiteCheck>>,
 ) -> Ending
     // For files that read, by the octets that were read of them, the run ends in the report of their configuration.
-    ensures headline { EndsInReport program (map (λ word. word.now) words.now)
-        (record { told_before = F.told files.old; told_after = F.told files.new; failed_before = F.faults files.old; failed_after = F.faults files.new })
-        result }
+    ensures headline { EndsInReport program (map (λ word. word.now) words.now) (files_of F.told F.faults files.old files.new) result }
 
     // Where no read failed, it is the outcome of the words' job; else the ending says why.
     ensures run { EndsAsAsked program (map (λ word. word.now) words.now) (map (λ b. record { name = name b; held = held b; step = step b }) sites.items)
-        (record { told_before = F.told files.old; told_after = F.told files.new; failed_before = F.faults files.old; failed_after = F.faults files.new })
-        result }
+        (files_of F.told F.faults files.old files.new) result }
 {
     let mut sites = sites;
     match read_words_of(alloc, program, words) {

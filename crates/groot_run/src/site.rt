@@ -1,16 +1,18 @@
 //! What the checks that an operator brings find in a configuration.
 
-ghost use Rattle.std.specs.Prelude.{◌≡◌, ◌⊎◌, ◌∷◌, [], map, IfOk, IfErr, OnOk};
+ghost use Rattle.std.specs.Prelude.{◌≡◌, ◌⊎◌, ◌∷◌, [], map, IfOk, IfErr, IfSome, OnOk};
 ghost use Rattle.net_model.specs.Reading.{ground_of};
 ghost use Rattle.query_classes.specs.ClassList.{AreListed, classes_of_row, classes_of_rows};
-ghost use Rattle.query_verdicts.specs.Queries.{limited_to, most_states};
+ghost use Rattle.query_verdicts.specs.Queries.{WalksLike, limited_to, most_states};
 ghost use Rattle.report_json.specs.Sites.{sites_text};
 ghost use Rattle.run_endings.specs.Endings.{no_memory};
+ghost use Rattle.groot_run.specs.HeldView.{IsHeld};
 ghost use Rattle.groot_run.specs.Outcome.{TellsFindings, ShowsClasses, WithinStates, site_rewrites};
 ghost use Rattle.groot_run.specs.ShownClasses.{AreShown, EndsAmongClasses};
 
 use crate::classes::rows_within;
 use crate::ending::too_many_states;
+use crate::held_view::{HeldView, change_class, hold};
 use crate::shown::show;
 use dns_data::{Name, NoMemory, Octets};
 use groot_line::USUAL_REWRITES;
@@ -101,8 +103,9 @@ pub(crate) fn show_rows(
     ensures ok { OnOk result (AreShown (λ b. name b) (λ b. held b) (λ b. step b) graphs.now (classes_of_rows rows.now) sites.old.items sites.new.items) }
     ensures err { IfErr result (EndsAmongClasses graphs.now (classes_of_rows rows.now)) }
 {
+    let mut last = None;
     for row in rows {
-        show_row(alloc, graphs, row, sites)?;
+        show_row(alloc, graphs, row, &mut last, sites)?;
     }
     Ok(())
 }
@@ -112,25 +115,78 @@ fn show_row(
     alloc: Global,
     graphs: &QueryGraphs<'_>,
     row: &ClassRow,
+    last: &mut Option<HeldView>,
     sites: &mut Vec<Box<dyn SiteCheck>>,
 ) -> Result<(), Ending>
+    requires { IfSome last.old (IsHeld graphs.now) }
+    ensures last { OnOk result (IfSome last.new (IsHeld graphs.now)) }
     ensures ok { OnOk result (AreShown (λ b. name b) (λ b. held b) (λ b. step b) graphs.now (classes_of_row row.now) sites.old.items sites.new.items) }
     ensures err { IfErr result (EndsAmongClasses graphs.now (classes_of_row row.now)) }
 {
     let exact = Class::Exact(row.name.copy(alloc)?);
-    show_class(alloc, graphs, &exact, &row.name, sites)?;
+    show_class(alloc, graphs, &exact, &row.name, last, sites)?;
     match &row.below {
         Some(representative) => {
             let below = Class::Below(row.name.copy(alloc)?);
-            show_class(alloc, graphs, &below, representative, sites)
+            show_class(alloc, graphs, &below, representative, last, sites)
         }
         None => Ok(()),
     }
 }
 
-/// Shows the view of a class for which the query stands to all checks. Where the name of some server reaches too many
-/// pairs of state and type, there is none to be shown: some representative reaches too many then.
+/// Shows the view of a class for which the query stands to all checks. Where queries walk as one name does, one graph
+/// serves for all of them that come one behind another.
 fn show_class(
+    alloc: Global,
+    graphs: &QueryGraphs<'_>,
+    class: &Class,
+    query: &Name,
+    last: &mut Option<HeldView>,
+    sites: &mut Vec<Box<dyn SiteCheck>>,
+) -> Result<(), Ending>
+    requires { IfSome last.old (IsHeld graphs.now) }
+    ensures last { OnOk result (IfSome last.new (IsHeld graphs.now)) }
+    ensures ok { OnOk result (AreShown (λ b. name b) (λ b. held b) (λ b. step b) graphs.now
+        (record { class = class.now; representative = query.now } ∷ []) sites.old.items sites.new.items) }
+    ensures err { IfErr result (EndsAmongClasses graphs.now (record { class = class.now; representative = query.now } ∷ [])) }
+{
+    match graphs.walks_as(query) {
+        Some(like) => show_like(alloc, graphs, class, query, like, last, sites),
+        None => show_by_graph(alloc, graphs, class, query, sites),
+    }
+}
+
+/// Shows the view of a class to all checks, for which a query stands that walks as the name does.
+fn show_like(
+    alloc: Global,
+    graphs: &QueryGraphs<'_>,
+    class: &Class,
+    query: &Name,
+    like: &Name,
+    last: &mut Option<HeldView>,
+    sites: &mut Vec<Box<dyn SiteCheck>>,
+) -> Result<(), Ending>
+    requires like { WalksLike graphs.now like.now query.now }
+    requires last { IfSome last.old (IsHeld graphs.now) }
+    ensures last { OnOk result (IfSome last.new (IsHeld graphs.now)) }
+    ensures ok { OnOk result (AreShown (λ b. name b) (λ b. held b) (λ b. step b) graphs.now
+        (record { class = class.now; representative = query.now } ∷ []) sites.old.items sites.new.items) }
+    ensures err { IfErr result (EndsAmongClasses graphs.now (record { class = class.now; representative = query.now } ∷ [])) }
+{
+    hold(alloc, graphs, class, like, last)?;
+    match last {
+        Some(one) => {
+            change_class(alloc, class, query, &mut one.view)?;
+            show(alloc, sites, &one.view)?;
+            Ok(())
+        }
+        None => Ok(()),
+    }
+}
+
+/// Shows the view of a class to all checks, by the graph of the query that stands for it. Where the name of some server
+/// reaches too many pairs of state and type, there is none to be shown: some representative reaches too many then.
+fn show_by_graph(
     alloc: Global,
     graphs: &QueryGraphs<'_>,
     class: &Class,

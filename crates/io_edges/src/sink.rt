@@ -18,8 +18,8 @@ pub trait Sink {
     /// How many calls failed. The count never falls, and stands still at 2^64 - 1.
     ghost faults: { Self → ℕ };
 
-    /// Takes a front of these octets, passes exactly it on, and answers its length: at least one where there are any. After a
-    /// failure it took nothing, and it may have passed on a front.
+    /// Takes a front of these octets, passes exactly it on, and answers its length: at least one where there are any. After
+    /// a failure it took nothing, and it may have passed on a front.
     fn write(&mut self, bytes: &[u8]) -> Result<usize, Failed>
         // What is taken. A sink that tells its bytes goes on telling them.
         ensures fits { IfOk result (λ count. count ≤ length bytes.now) }

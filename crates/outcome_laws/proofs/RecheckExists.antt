@@ -1,5 +1,5 @@
--- What `recheck` answers there is: whether a value is a right entry is decided, since its query is named by its text, and the
--- query's walks and what they may show are lists.
+-- What `recheck` answers there is: whether a value is a right entry is decided, since its query is named by its text, and
+-- the query's walks and what they may show are lists.
 use Rattle.std.proofs.Common.{◌≡◌, ◌≢◌, ◌∙◌, ◌⊎◌, ℕ, suc, Bool, false, List, [], ◌∷◌, ◌++◌, map, flat_map, length, Contains, Option, Some, None, refl, sym, ap, subst, inl, inr, arith}
 use Rattle.std.specs.Prelude.{Result, Ok, Err, codes, slice_get}
 use Rattle.std.specs.List.{AllByRecursion}

@@ -29,8 +29,8 @@ pub fn report_parts()
         ↔ ((report : Report) × HasFaults (whole_config config rewrites) report × HasEntries (whole_config config rewrites) report × IsWritten report ending) }
 {}
 
-/// What each command gives of the configurations that it reads, and `recheck` of a report's octets, there is: a text, or that
-/// a limit is passed. Of `scope` it is so if the scope's name and the servers' are names.
+/// What each command gives of the configurations that it reads, and `recheck` of a report's octets, there is: a text, or
+/// that a limit is passed. Of `scope` it is so if the scope's name and the servers' are names.
 pub fn outcomes_exist()
     ensures check { (limit rewrites : ℕ) (config : Config) → (ending : Ending) × Checks limit rewrites config ending }
     ensures drill { (limit zones : ℕ) (config : Config) → (ending : Ending) × Drills limit zones config ending }

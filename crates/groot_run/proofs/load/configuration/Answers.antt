@@ -3,7 +3,7 @@ use Rattle.config_load.specs.Conf.{conf_within}
 use Rattle.config_load.specs.declared.limits.Limits.{Limits}
 use Rattle.net_model.specs.declared.config.Config.{Config}
 use Rattle.run_endings.specs.Ends.{EndsWithout}
-use Rattle.groot_run.proofs.Endings.{not_loaded}
+use Rattle.run_endings.proofs.AsAsked.{not_loaded}
 use Rattle.groot_run.proofs.load.configuration.Goals as goal
 
 pub returns-in-Err-clause-err : goal.returns-in-Err-clause-err
@@ -13,4 +13,4 @@ returns-in-Err-clause-err g c =
     let after = g.F.Files.faults c.load_within.new.files in
     let meta = c.args.meta.now in
     subst (λ (limits : Limits). EndsWithout {T = Config} meta (conf_within limits meta) told before after c.not_loaded.result) c.limits_of.ensures
-    (not_loaded c.limits_of.result told before after meta c.in-Err.fault c.not_loaded.result c.in-Err.ensures.gives c.in-Err.ensures.order c.in-Err.ensures.cause c.not_loaded.ensures)
+    (not_loaded meta (conf_within c.limits_of.result meta) told before after c.not_loaded.result c.in-Err.fault c.in-Err.ensures.gives c.in-Err.ensures.order c.in-Err.ensures.cause c.not_loaded.ensures)

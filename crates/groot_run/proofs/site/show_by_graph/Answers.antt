@@ -4,7 +4,7 @@ use Rattle.graph_form.specs.Graph.{PlainGraph}
 use Rattle.interp_graph.specs.declared.fault.GraphFault.{GraphFault}
 use Rattle.query_verdicts.specs.Queries.{IsLeastGraph, ServerPasses}
 use Rattle.groot_run.proofs.ShownClasses.{shown_one, ends_there}
-use Rattle.groot_run.proofs.site.show_class.Goals as goal
+use Rattle.groot_run.proofs.site.show_by_graph.Goals as goal
 
 pub returns-in_ok-show-in-Ok-Some-clause-ok : goal.returns-in_ok-show-in-Ok-Some-clause-ok
 returns-in_ok-show-in-Ok-Some-clause-ok g c =
