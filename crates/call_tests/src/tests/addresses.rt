@@ -10,7 +10,7 @@ use net_model::Config;
 use plain_resolver::{LearntFault, learnt};
 use std::alloc::Global;
 use std::test::Fail;
-use zone_lookup::{CutFlags, CutTable, Hosts, LearntSets};
+use zone_lookup::Hosts;
 
 /// Metadata of two firms below a root.
 const TWO_FIRMS: &str =
@@ -46,51 +46,6 @@ fn are_learnt_in_a_circle(alloc: Global, config: &Config) -> Result<bool, Fail> 
     let is_least = none_is_learnt(alloc, config)?;
     let is_greatest = both_are_learnt(alloc, config)?;
     Ok(is_least && is_greatest && graphs_give_both_sets(alloc, config)?)
-}
-
-// The table of zone cuts tells that the first firm's name server has no address but by itself, and needs no glue.
-#[test]
-fn a_table_of_cuts_tells_a_circle(rt: HostRuntime) -> Result<(), Fail> {
-    let alloc = rt.alloc();
-    let config = loaded(alloc, TWO_FIRMS, &CIRCLE)?;
-    let server = name(alloc, "a.r.")?;
-    let cut = name(alloc, "p.")?;
-    assert!(rt; is_told_circle(alloc, &config, &server, &cut)?);
-    Ok(())
-}
-
-/// Whether the table tells of the delegation that the server's root zone has that it is part of a circle.
-fn is_told_circle(
-    alloc: Global,
-    config: &Config,
-    server: &Name,
-    cut: &Name,
-) -> Result<bool, GraphFault> {
-    let hosts = Hosts::build(alloc, config)?;
-    let told = told_by_graphs(alloc, config, &hosts)?;
-    let sets = LearntSets::build(alloc, dependencies(alloc, config, told.items())?)?;
-    let table = CutTable::build(alloc, &hosts, &sets)?;
-    Ok(tells_circle(&hosts, &table, server, cut))
-}
-
-/// Whether the table tells so of the cut.
-fn tells_circle(hosts: &Hosts<'_>, table: &CutTable<'_>, server: &Name, cut: &Name) -> bool {
-    let root = Name::root();
-    match hosts.held_zone(server, &root) {
-        Some(tree) => match tree.node_at(cut) {
-            Some(node) => is_circle(table.told(hosts.near_of(server, &root), server, tree, node)),
-            None => false,
-        },
-        None => false,
-    }
-}
-
-/// Whether these are the flags of one name server whose address depends on itself.
-fn is_circle(told: Option<&[CutFlags]>) -> bool {
-    match told {
-        Some([one]) => one.cyclic && one.no_address && !one.no_glue,
-        _ => false,
-    }
 }
 
 /// Whether no address is learnt, begun with no server.
@@ -140,7 +95,7 @@ fn told_by_graphs<'a>(
     ensures { IfOk result (λ told. length told ≡ length config.now.servers) }
 {
     let mut told = List::new(alloc);
-    for server in config.servers.items() {
+    for server in config.servers() {
         let query = server.name.copy(alloc)?;
         let graph = graph_of(alloc, hosts, query)?;
         told.push(told_by(alloc, hosts, &graph)?)?;

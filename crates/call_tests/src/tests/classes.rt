@@ -1,12 +1,14 @@
 //! Classes of query names.
 
 use super::configs::{alone, name, spells};
+use base_names::base_graph;
 use dns_data::{Name, NameFault, NoMemory};
 use label_graph::LabelGraph;
 use net_model::Class;
 use query_classes::{children, class_of, representative};
 use std::alloc::Global;
 use std::test::Fail;
+use zone_lookup::Hosts;
 
 /// The graph of a zone with `t.`, `a.t.` and a wildcard. The wildcard's target `foo.a.t.` isn't named.
 fn wildcard_graph(alloc: Global) -> Result<LabelGraph, Fail> {
@@ -14,7 +16,8 @@ fn wildcard_graph(alloc: Global) -> Result<LabelGraph, Fail> {
         alloc,
         "t. 60 SOA ns.t. h.t. 1 2 3 4 5\n*.a.t. 60 CNAME foo.a.t.\n",
     )?;
-    Ok(LabelGraph::of_config(alloc, &config)?)
+    let hosts = Hosts::build(alloc, &config)?;
+    Ok(base_graph(alloc, &hosts)?)
 }
 
 // A name that is named is alone, any other is in the class below its longest named prefix. The first label that is free

@@ -52,7 +52,7 @@ pub(crate) fn alone(alloc: Global, zone: &str) -> Result<Config, Fail> {
 
 /// The first server's first zone.
 pub(crate) fn first_zone(config: &Config) -> Option<&Zone> {
-    config.servers.items().first()?.zones.items().first()
+    config.servers().first()?.zones.items().first()
 }
 
 /// The name that a text spells.

@@ -1,10 +1,10 @@
 //! Graphs of queries, beside all their walks.
 
 use super::configs::{alone, graph_of, graph_within, name};
+use base_names::base_graph;
 use dns_data::{List, Name, NoMemory, RrType};
 use graph_form::{Branch, Graph};
 use interp_graph::GraphFault;
-use label_graph::LabelGraph;
 use net_model::{Config, Walk};
 use plain_resolver::resolve;
 use query_classes::{ClassRow, TreeFault, class_tree};
@@ -67,7 +67,7 @@ fn are_walked(alloc: Global, config: &Config) -> Result<bool, Fail> {
 
 /// Whether it is so in a configuration whose zones' trees are built.
 fn are_rows_walked(alloc: Global, config: &Config, hosts: &Hosts<'_>) -> Result<bool, Fail> {
-    let rows = rows_of(alloc, config)?;
+    let rows = rows_of(alloc, hosts)?;
     for row in rows.items() {
         if !is_row_walked(alloc, config, hosts, row)? {
             return Ok(false);
@@ -77,8 +77,8 @@ fn are_rows_walked(alloc: Global, config: &Config, hosts: &Hosts<'_>) -> Result<
 }
 
 /// The names of the class tree, each with the representative of the class below it.
-fn rows_of(alloc: Global, config: &Config) -> Result<List<ClassRow>, TreeFault> {
-    let graph = LabelGraph::of_config(alloc, config)?;
+fn rows_of(alloc: Global, hosts: &Hosts<'_>) -> Result<List<ClassRow>, TreeFault> {
+    let graph = base_graph(alloc, hosts)?;
     class_tree(alloc, &graph, &Name::root(), 1000)
 }
 

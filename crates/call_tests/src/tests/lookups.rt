@@ -12,8 +12,8 @@ use zone_tree::Tree;
 const ANSWERING: &str =
     "t. 60 SOA ns.t. h.t. 1 2 3 4 5\na.t. 60 A 192.0.2.1\nb.t. 60 NS ns.b.t.\nc.t. 60 CNAME a.t.\nd.t. 60 DNAME a.t.\n";
 
-// An address is an answer, a name below a zone cut is referred (RFC 1034 section 4.3.2), an alias and a name below the owner
-// of a DNAME record are rewritten (RFC 6672 section 2.2), and a name that isn't there is none.
+// An address is an answer, a name below a zone cut is referred (RFC 1034 section 4.3.2), an alias and a name below the
+// owner of a DNAME record are rewritten (RFC 6672 section 2.2), and a name that isn't there is none.
 #[test]
 fn a_zone_answers_by_what_decides(rt: HostRuntime) -> Result<(), Fail> {
     let config = alone(rt.alloc(), ANSWERING)?;

@@ -9,6 +9,7 @@ ghost use Rattle.net_model.specs.Zone.{exists_in};
 ghost use Rattle.net_model.specs.declared.class.Class.TheVariants.{Below};
 
 use super::configs::{alone, first_zone, name, spells};
+use base_names::base_graph;
 use dns_data::{JoinFault, Label, Name, NameFault, NoMemory, TypeSet};
 use interp_graph::{GraphFault, build};
 use label_graph::LabelGraph;
@@ -139,7 +140,8 @@ fn is_open(alloc: Global, config: &Config, name: &Name) -> Result<bool, NoMemory
 {
     // The octets are counted, so that it is known here that they are at most 255.
     let _ = name.octets();
-    let graph = LabelGraph::of_config(alloc, config)?;
+    let hosts = Hosts::build(alloc, config)?;
+    let graph = base_graph(alloc, &hosts)?;
     let is_below = is_below(alloc, &graph, name)?;
     Ok(is_below)
 }

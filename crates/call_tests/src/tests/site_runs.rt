@@ -3,7 +3,7 @@
 
 use super::configs::{ALONE, files};
 use dns_data::{List, NoMemory};
-use groot_run::{Status, groot, groot_with_sites};
+use groot_run::{Status, groot_with_sites};
 use io_edges::{FreeGate, MemoryFiles, MemorySink};
 use site_checks::{Line, SiteCheck, View};
 use std::alloc::Global;
@@ -141,8 +141,8 @@ const OF_SITE: &str = "{\"sites\":[{\"findings\":[],\"name\":\"let-go\"}]}\n";
 const OF_SCOPE: &str =
     "{\"classes\":4,\"faults\":[],\"names\":2,\"rewrites\":12,\"scope\":\"t.\",\"sites\":[{\"findings\":[],\"name\":\"let-go\"}]}\n";
 
-// The check is asked once and let go once where the run tells what it found. Where a file is refused, and where the check ran
-// out of memory, nothing is written, and it is let go too.
+// The check is asked once and let go once where the run tells what it found. Where a file is refused, and where the check
+// ran out of memory, nothing is written, and it is let go too.
 #[test]
 fn checks_are_asked_once_and_let_go_however_a_run_ends(rt: HostRuntime) -> Result<(), Fail> {
     let cases = [
@@ -164,29 +164,5 @@ fn checks_are_asked_once_and_let_go_however_a_run_ends(rt: HostRuntime) -> Resul
             assert_eq!(rt; added, Some(counted), "{words:?}, status {number}");
         }
     }
-    Ok(())
-}
-
-/// Whether `site` ends so for an operator who brings no check.
-fn ends_alone<R: Threads + Wait + Sync>(
-    rt: &R,
-    alloc: Global,
-    end: &End,
-) -> Result<bool, NoMemory> {
-    let mut around = over_zone(alloc, ZONE)?;
-    let words = ["site", "m.json"];
-    let Around { files, out, err } = &mut around;
-    let status = groot(rt, alloc, &words, files, out, err, &FreeGate);
-    Ok(has_ended(&status, &around, end))
-}
-
-#[test]
-fn without_checks_nothing_is_told(rt: HostRuntime) -> Result<(), Fail> {
-    let end = End {
-        number: 0,
-        out: "{\"sites\":[]}\n",
-        err: "",
-    };
-    assert!(rt; ends_alone(&rt, rt.alloc(), &end)?);
     Ok(())
 }
