@@ -79,7 +79,7 @@ said "3 findings from 2 causes"
 said "copy-differs, unreached-row: a server holds another copy of a zone than the first row of it"
 expect 1 "a copy with other records" unmet hidden-primary --unasked hidden.nic.example.
 finds hidden-primary "copy-differs"
-said "example.: other records, with the same serial 2026112701, on a.nic.example."
+said "example.: other records than hidden.nic.example., with the same serial 2026112701, on a.nic.example."
 sed -i 's/2026112701/2026112601/g' "$scratch/unmet/findings.json"
 known_by_itself hidden-primary --unasked hidden.nic.example.
 expect 1 "a forgotten row" unmet forgotten-row
@@ -94,7 +94,7 @@ expect 1 "a copy that a departed customer left, and an alias into it" unmet depa
 finds departed-customer "alias-differs copy-differs unreached-row"
 said "3 findings from 1 cause"
 said "news.shop.example. to www.blog.example., on b.nic.example. ($top/examples/departed-customer/shop.example.zone:5)"
-said "blog.example.: behind: serial 2025010101, not 2026112701, on b.nic.example."
+said "blog.example.: behind c.nic.example.: serial 2025010101, not 2026112701, on b.nic.example."
 said "query: www.blog.example. A, at b.nic.example. and from the top servers"
 known_by_itself departed-customer
 expect 1 "a DS record that matches no key" unmet changed-key

@@ -143,7 +143,7 @@ def made_cause: sort_by(rank, .entry) | (first(.[].lag | values) // null) as $la
     else {} end;
 # A server whose copies of more than three zones differ.
 def of_copies: if .kinds == ["copy-differs"] and (.zones | length) > 3 then .headline = "in \(.zones | length) zones: \(.server) holds other copies than \(
-    [.places[].first.columns.of // "the first row"] | unique | join(", "))" else . end;
+    [.places[].first.columns.of] | unique | join(", "))" else . end;
 # What is listed below the headline of a cause: its places in words.
 def listing: if .listed then . else (.kinds | length > 1) as $several
   | .listed = (.places | map({subject, details, kind: (if $several then .kind else null end)})) end;

@@ -36,7 +36,7 @@ def counting($given; $from): lists[$from] as $list | $list.columns as $columns |
   | (reduce range(0; $columns | length) as $number ({}; setpath([$columns[$number]]; $row[$number]))) as $line
   | select($how.of == null or $how.of == $line.type) | {from: $from, kind: $how.kind, columns: $line};
 # A line with what it needs of rows and records: a file of a row, a server of a record, the first row of a zone, the zone of a target.
-def completed($held; $named): .columns |= if .row then . + {file: $held.file[.row], of: $held.first[.zone], is_reached: ($held.reached[.server] // false)} elif .origins then
+def completed($held; $named): .columns |= if .row then . + {file: $held.file[.row], of: ($held.first[.zone] // "the first row"), is_reached: ($held.reached[.server] // false)} elif .origins then
     ($named["\(.file):\(.line)"] // [.ns, ".", "."]) as $record | .server = $record[0] | .zone = $record[1] | .owner = $record[2]
   elif .asked then .server as $server | .held = (first(.target | upwards[] | select($held.holds["\($server)\t\(.)"])) // .target)
   elif .four then .ends = ([.four, .six] | unique | join(" and ")) else . end;

@@ -26,7 +26,7 @@ def kinds:
   "aliased-name-server": {"level": "warning", "what": "an NS record names a server by an alias, which some resolvers refuse (RFC 2181)",
     "mend": "name the server by the name that has its address"},
   "unreached-row": {"level": "warning", "what": "no query reaches a row of the metadata, so its file mostly goes unchecked",
-    "mend": "correct the server's or the zone's name in the metadata, or the delegation that should lead to it"},
+    "mend": "correct the server's or the zone's name in the metadata, or the delegation that should lead to it; for a server that no query needs to reach, call groot-gate with --unasked"},
   "dead-name-server": {"level": "error", "what": "NS records name a server that has no address",
     "mend": "give its name an address, or take it out of the NS records"},
   "copy-differs": {"level": "error", "what": "a server holds another copy of a zone than the first row of it",

@@ -61,6 +61,9 @@ def zones(server: Server, text: str, views: List[str], findings: Findings) -> Li
     config = statements(iter(tokens))
     for sign in signs_of_a_person(warnings, tokens, config):
         raise unprinted(server, command("FILE"), sign)
+    if server.elsewhere and not printed:
+        raise NoMetadata(f"{server.name}: {server.path}: it has no configuration, but: {warnings[0]}; "
+                         f"give what {' '.join(command('FILE'))} prints")
     options = block_of("options", config)
     view, block = chosen_view(server, config, views, findings)
     scope = block if view else Block([])

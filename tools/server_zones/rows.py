@@ -78,7 +78,7 @@ def names_of(zone: Zone, wanted: Wanted) -> List[str]:
 def zones_of(server: Server, wanted: Wanted, findings: Findings) -> List[Zone]:
     """The zones that a server holds, without those that are left out, in the order of their names from the top label down."""
     try:
-        text = printed(server, COMMANDS[server.kind](server.path)) if server.kind in COMMANDS else ""
+        text = printed(server) if server.kind in COMMANDS else ""
         held = ZONES[server.kind](server, text, wanted.views, findings)
     except OSError as fault:
         raise NoMetadata(f"{server.name}: {fault.filename}: {fault.strerror}") from None
@@ -102,12 +102,16 @@ def without_catalogs(zones: Dict[Place, Zone], findings: Findings) -> Dict[Place
     return {place: zone for place, zone in zones.items() if zone.name not in names}
 
 
-def printed(server: Server, command: List[str]) -> str:
+def printed(server: Server) -> str:
     """A server's configuration as its own tool prints it, here or on another machine."""
+    command = COMMANDS[server.kind]
     if not server.elsewhere:
-        return output_of(command, server.name)
+        return output_of(command(server.path), server.name)
     with open(server.path, encoding="utf-8", errors="surrogateescape") as file:
-        return file.read()
+        text = file.read()
+    if not text.strip():
+        raise NoMetadata(f"{server.name}: {server.path}: it is empty; give what {' '.join(command('FILE'))} prints")
+    return text
 
 
 def said_role(zone: Zone, wanted: Wanted) -> str:
