@@ -1,5 +1,5 @@
 #!/usr/bin/env python3
-"""Lists what the house doesn't allow in the crates' code: lints.py [--stale]
+"""Lists what the house doesn't allow in the crates' code: lints.py [--drop]
 
 - `export`: a function, a constant or a method that a crate exports and no other crate calls, tests not counted. The name of a
   function counts only in a file that names its crate. A law, in a module `laws`, is there for its contract.
@@ -8,16 +8,21 @@
 - `parameters`: a function of more than seven parameters, `self` counted.
 - `number`: a bare number in an expression, other than 0, 1, 2 and the numbers of the field in OF_THE_FIELD. A constant, a
   pattern, the arms of a table and a contract may have any.
+- `import`: a name that a file of src imports and doesn't write again, outside comments. A trait may be there for its methods.
+- `long`: a line of a comment of more than 124 characters, in src, specs or proofs.
 
-.ci/lints_allowed.txt has the exceptions, a line each: the lint, the crate, the name, and the reason. A line that nothing needs
-is listed too. The status is 1 if something is listed.
+.ci/lints_allowed.txt has the exceptions, a line each: the lint, the crate, the name, and the reason. Of an import the name is
+the file without its end, and the names behind it, with commas between. A line that nothing needs is listed too; with --drop it
+is taken out of the file. The status is 1 if something is listed.
 """
 import pathlib
 import re
 import sys
 
 TOP = pathlib.Path(__file__).resolve().parent.parent
+ALLOWED = TOP / ".ci" / "lints_allowed.txt"
 MOST_PARAMETERS = 7
+MOST_IN_A_LINE = 124
 # Decimal digits; octets of a label, of a name without and with its root label, and of an octet's and a field's range.
 OF_THE_FIELD = {10, 100, 63, 254, 255, 256, 65535}
 CODE = re.compile(r"//[^\n]*|\"(?:\\.|[^\"\\])*\"|b?'(?:\\[^\n]{1,3}|[^\\\n])'|\bghost use [^;]*;|#!?\[[^\]\n]*\]")
@@ -25,6 +30,12 @@ ITEM = re.compile(r"^(pub(?:\(\w+\))? )?(?:const |unsafe )*(fn|struct|enum|trait
 METHOD = re.compile(r"^    (pub(?:\(\w+\))? )?(?:const |unsafe )*fn (\w+)", re.M)
 IMPL = re.compile(r"^impl\b(?:<(?:[^<>]|<[^<>]*>)*>)?\s*([^{]*)\{", re.M)
 FUNCTION = re.compile(r"\bfn (\w+)(?:<(?:[^<>]|<[^<>]*>)*>)?\(")
+IMPORT = re.compile(r"^ *(pub(?:\(\w+\))? )?(ghost )?use ([^;]*);", re.M)
+NO_WORD = re.compile(r"//[^\n]*|\"(?:\\.|[^\"\\])*\"|^ *(?:pub(?:\(\w+\))? )?(?:ghost )?use [^;]*;", re.M)
+COMMENT = re.compile(r"^ *((?://|--).*)$", re.M)
+TRAIT = re.compile(r"\btrait (\w+)")
+# Traits of the kit that are imported for their methods.
+TRAITS = {"Digest", "Hasher", "Write"}
 NUMBER = re.compile(r"(?<![\w.])(?<!=> )(\d[\d_]*)(?:_?[iu](?:8|16|32|64|size))?\b(?!\s*(?:\.\.=?[^;{}]*)?=>)")
 
 
@@ -43,16 +54,24 @@ def closing(text, at, pair):
     return len(text)
 
 
-class Source:
-    """A file of a crate: its code, without comments, texts and attributes."""
+class Text:
+    """A file of a crate."""
 
     def __init__(self, path):
         self.path = path
-        self.code = CODE.sub(blank, path.read_text())
-        self.impls = [(at.start(), closing(self.code, at.end() - 1, "{}"), at.group(1)) for at in IMPL.finditer(self.code)]
+        self.text = path.read_text()
 
     def line(self, place):
-        return self.code.count("\n", 0, place) + 1
+        return self.text.count("\n", 0, place) + 1
+
+
+class Source(Text):
+    """A file of code: besides its text its code, without comments, texts and attributes."""
+
+    def __init__(self, path):
+        super().__init__(path)
+        self.code = CODE.sub(blank, self.text)
+        self.impls = [(at.start(), closing(self.code, at.end() - 1, "{}"), at.group(1)) for at in IMPL.finditer(self.code)]
 
     def type_at(self, place):
         """The type at which a method stands, or None in an `impl` of a trait, where the trait says who may call it."""
@@ -75,6 +94,7 @@ class Crate:
     """A crate: its files, and the names that its lib.rt exports."""
 
     def __init__(self, folder):
+        self.folder = folder
         self.name = folder.name
         self.files = [Source(path) for path in sorted((folder / "src").rglob("*.rt"))]
         lib = folder / "src" / "lib.rt"
@@ -142,24 +162,93 @@ def numbers(crate):
                     yield "number", crate.name, f"{at.group(1)} {found.group(1)}", file, found.start()
 
 
+def imported(tree):
+    """The names that the tree of an import brings."""
+    head, opened, inner = tree.strip().partition("{")
+    if opened:
+        for part in split(inner[:inner.rindex("}")]):
+            yield from imported(head.rstrip(":.") if part == "self" else part)
+    else:
+        yield re.split(r"::|(?<=\w)\.(?=[\w◌\[])| as ", head.strip())[-1].strip()
+
+
+def split(text):
+    """The parts of a text between commas that stand in no bracket."""
+    depth, parts = 0, [""]
+    for sign in text:
+        depth += (sign == "{") - (sign == "}")
+        if sign == "," and depth == 0:
+            parts.append("")
+        else:
+            parts[-1] += sign
+    return [part.strip() for part in parts if part.strip()]
+
+
+def is_written(name, text):
+    """Whether a text has a name; of an operator each of its signs."""
+    words = [re.escape(part) for part in name.split("◌") if part]
+    return all(re.search(word if re.fullmatch(r"\W+", word) else rf"(?<![\w']){word}(?![\w'])", text) for word in words)
+
+
+def imports(crate, traits):
+    for file in crate.files:
+        written = NO_WORD.sub("", file.text)
+        module = file.path.relative_to(crate.lib.parent).with_suffix("")
+        for at in IMPORT.finditer(file.text):
+            for name in () if at.group(1) else imported(at.group(3)):
+                if not is_written(name, written) and (at.group(2) or name not in traits):
+                    yield "import", crate.name, f"{module} {name}", file, at.start()
+
+
+def long_lines(crate):
+    for path in sorted(path for part in ("src", "specs", "proofs") for path in (crate.folder / part).rglob("*.*t")):
+        file = Text(path)
+        for at in COMMENT.finditer(file.text):
+            if len(at.group()) > MOST_IN_A_LINE:
+                yield "long", crate.name, " ".join(re.findall(r"\w+", at.group(1))[:6]), file, at.start()
+
+
+def allowances(line):
+    """What a line of the exceptions allows: the lint, the crate and the name; of imports each name."""
+    if not line.strip() or line.startswith("#"):
+        return []
+    lint, crate, name, _ = (part.strip() for part in line.split(":", 3))
+    file, _, names = name.partition(" ")
+    return [(lint, crate, f"{file} {one}") for one in split(names)] if lint == "import" else [(lint, crate, name.replace("/", "::"))]
+
+
+def needed(line, used):
+    """The line of the exceptions without what nothing needs, or none."""
+    allowed = allowances(line)
+    if not allowed or used.issuperset(allowed):
+        return [line]
+    kept = [name.split(" ")[1] for lint, crate, name in allowed if (lint, crate, name) in used]
+    head, name, reason = line.rsplit(": ", 2)
+    return [f"{head}: {name.split(' ')[0]} {', '.join(kept)}: {reason}"] if kept else []
+
+
 def main():
     crates = [Crate(folder) for folder in sorted((TOP / "crates").iterdir()) if (folder / "src").is_dir()]
     checked = [crate for crate in crates if crate.name != "call_tests"]
-    allowed = {}
-    for line in (TOP / ".ci" / "lints_allowed.txt").read_text().splitlines():
-        if line.strip() and not line.startswith("#"):
-            lint, crate, name, reason = (part.strip() for part in line.split(":", 3))
-            allowed[lint, crate, name.replace("/", "::")] = reason
+    traits = TRAITS.union(*(TRAIT.findall(file.code) for crate in crates for file in crate.files))
+    lines = ALLOWED.read_text().splitlines()
+    allowed = {one for line in lines for one in allowances(line)}
     used, bad = set(), 0
-    for crate in checked:
+    for crate in crates:
         others = [other for other in checked if other is not crate]
-        for lint, where, name, file, place in [*doors(crate), *exports(crate, others), *parameters(crate), *numbers(crate)]:
+        found = [*imports(crate, traits), *long_lines(crate)]
+        if crate in checked:
+            found += [*doors(crate), *exports(crate, others), *parameters(crate), *numbers(crate)]
+        for lint, where, name, file, place in found:
             if (lint, where, name) in allowed:
                 used.add((lint, where, name))
                 continue
             bad += 1
             print(f"{file.path.relative_to(TOP)}:{file.line(place)}: {lint}: {name}")
-    for lint, crate, name in sorted(allowed.keys() - used):
+    if "--drop" in sys.argv:
+        ALLOWED.write_text("".join(f"{kept}\n" for line in lines for kept in needed(line, used)))
+        allowed = used
+    for lint, crate, name in sorted(allowed - used):
         bad += 1
         print(f".ci/lints_allowed.txt: nothing needs this: {lint}: {crate}: {name}")
     print(f"lints: {bad} found, {len(used)} allowed")

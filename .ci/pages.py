@@ -16,11 +16,13 @@ MOST_WORDS = {
     "docs/ARCHITECTURE.md": 2500,
     "docs/PROGRAMS.md": 1300,
     "docs/PROMISES.md": 4250,
+    "docs/WORDS.md": 1500,
+    "docs/CHANGES.md": 1000,
     "CONTRIBUTING.md": 2000,
     "CHANGELOG.md": 600,
 }
-SHORT_SENTENCES = ["README.md", "docs/BELIEVE.md", "docs/ARCHITECTURE.md"]
-MOST_IN_A_SENTENCE = 40
+SHORT_SENTENCES = ["README.md", "docs/BELIEVE.md", "docs/ARCHITECTURE.md", "docs/TRUST.md", "docs/WORDS.md", "CONTRIBUTING.md"]
+MOST_IN_A_SENTENCE = 36
 ROW = re.compile(r"^\| ([\w ]*) \| \[(\w+)\]\(\.\./crates/(\w+)\) \|", re.M)
 
 

@@ -45,11 +45,16 @@ def redirected_servers(count, folder):
     return metadata(folder, rows + [row(zone, f"{number}.p.") for number in range(count)], *tops)
 
 
-def aliased_servers(count, folder):
+def aliased_servers(count, folder, target="www.a."):
     """Top servers that all hold one zone, in which a wildcard makes an alias of each of their names."""
-    zone = put(folder, "a.zone", f"$TTL 60\n{start('a.')}a. NS s0.a.\nwww.a. A {RECORD}\n*.a. CNAME www.a.\n")
+    zone = put(folder, "a.zone", f"$TTL 60\n{start('a.')}a. NS s0.a.\nwww.a. A {RECORD}\n*.a. CNAME {target}\n")
     servers = [f"s{number}.a." for number in range(count)]
     return metadata(folder, [row(zone, server) for server in servers], *servers)
+
+
+def servers_aliased_away(count, folder):
+    """The same, where the aliases leave all zones, so that each leads on to all top servers."""
+    return aliased_servers(count, folder, "www.z.")
 
 
 def laden_cut(count, folder):

@@ -13,7 +13,7 @@ those of each word of groot-map with their ratios to those of `check`. Each is t
 With --instructions it prints a row for each input instead: the millions of instructions of `check`, and of each word the ratio
 of its instructions to those, of one run each, which are the same under every load; that needs valgrind. With --tenth all inputs
 are a tenth as large; with --only those alone whose title has the word. At most the time and the memory of `check` are wanted of
-each word for all inputs but the last.
+each word; RESULTS.md says which take more.
 """
 import argparse
 import os

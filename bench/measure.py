@@ -1,5 +1,6 @@
 """What the scripts here share: the built program, runs that are measured, and programs that are proved and built in a
 scratch folder."""
+import ctypes
 import json
 import os
 import re
@@ -17,11 +18,11 @@ GROOT = os.path.join(TOP, "crates", "groot", "out", "groot")
 MEBIBYTE = 1 << 20
 RUNS = 5
 SECONDS = 1800
+PR_SET_CHILD_SUBREAPER = 36  # of prctl(2)
 
 
 class Taken(NamedTuple):
-    """What a run takes: processor seconds, seconds by the clock, and MiB at its peak. A run begins as a copy of this script, so
-    the peak is never told lower than that of the script, some 15 MiB."""
+    """What a run takes: processor seconds, seconds by the clock, and MiB at its peak."""
 
     processor: float
     clock: float
@@ -35,19 +36,37 @@ def program(path):
     return path
 
 
+def begun(words, out=subprocess.DEVNULL, bound=None):
+    """The number of a process that runs the words, for which this script can wait. A small shell begins it and ends: begun by
+    this script it would be its copy at first, and its peak would be that of the script. It runs once the shell has ended.
+    `bound` is called in the shell before."""
+    ctypes.CDLL(None).prctl(PR_SET_CHILD_SUBREAPER, 1, 0, 0, 0)
+    shell = ["sh", "-c", 'exec 3<&0; { read -r _; exec "$@" </dev/null 3<&-; } <&3 2>/dev/null & echo $! >&2', "sh", *words]
+    ready, tell = os.pipe()
+    with os.fdopen(ready), os.fdopen(tell, "w") as go:
+        told = subprocess.run(shell, stdin=ready, stdout=out, stderr=subprocess.PIPE, preexec_fn=bound, check=True)
+        go.write("\n")
+    return int(told.stderr)
+
+
+def waited(process):
+    """How a process ended, and what it used."""
+    _, status, usage = os.wait4(process, 0)
+    return os.waitstatus_to_exitcode(status), usage
+
+
 def measured(words, statuses=(0,), runs=RUNS):
     """The least that some runs take, or None where one of them ends with another status, or not within half an hour."""
     best = None
     for _ in range(runs):
         start = time.monotonic()
-        child = subprocess.Popen(words, stdin=subprocess.DEVNULL, stdout=subprocess.DEVNULL, stderr=subprocess.DEVNULL)
-        end = threading.Timer(SECONDS, os.kill, (child.pid, signal.SIGKILL))
+        process = begun(words)
+        end = threading.Timer(SECONDS, os.kill, (process, signal.SIGKILL))
         end.start()
-        _, status, usage = os.wait4(child.pid, 0)
+        status, usage = waited(process)
         end.cancel()
         clock = time.monotonic() - start
-        child.returncode = os.waitstatus_to_exitcode(status)
-        if child.returncode not in statuses:
+        if status not in statuses:
             return None
         now = Taken(usage.ru_utime + usage.ru_stime, clock, usage.ru_maxrss / 1024)
         best = now if best is None else Taken(*map(min, best, now))

@@ -26,8 +26,9 @@ import lemmas
 
 TOP = os.path.dirname(os.path.dirname(os.path.abspath(__file__)))
 TOP_CALL = ("groot_run", "run.rt", "groot_with_sites")
-# the parts of the headline, as docs/BELIEVE.md has them
+# the parts of the headline, as docs/BELIEVE.md has them, and the file in which they stand
 PARTS = ("HasFaults", "HasEntries", "IsWritten")
+PARTS_FILE = ("outcome_laws", "Parts")
 DEFINED = re.compile(r"(?:abbrev |unfoldable )?pub (?:record |data )?([^\s:({]+)")
 TYPE = re.compile(r"pub(?:\([a-z]+\))? (struct|enum|trait|type) (\w+)")
 IMPORT = re.compile(r"^(?:ghost |pub )?use Rattle\.(\w+)\.specs\.([\w.]+?)(?:\.\{(.*)\})?(?: as (\w+))?;?$")
@@ -160,7 +161,7 @@ def words_of(crate, path):
     text = "\n".join(lines_of("crates", crate, *path.split("/")))
     words, aliases = {}, {}
     for line in text.splitlines():
-        found = IMPORT.match(line)
+        found = IMPORT.match(line.strip())
         if not found or found.group(1) not in crates():
             continue
         other, place, names, alias = found.groups()
@@ -353,9 +354,10 @@ def renewed():
 
 def with_parts(text):
     """The page with how many lines each part of the headline adds to those on which the parts above it rest."""
+    crate, file = PARTS_FILE
     seen = set()
     for name in PARTS:
-        found = set(definition_rests_on(name)) - seen
+        found = set(below([specs_of(crate)[file, name]])) - seen
         seen |= found
         text = re.sub(rf"(\| `{name}` \|.*\| )[^|]*( \|)$", rf"\g<1>{sum(map(number_of_lines, found)):,}\2", text, flags=re.M)
     return text
