@@ -1,6 +1,6 @@
 //! Whether an address of a server's name can be learnt, by what is told of the name.
 
-ghost use Rattle.std.specs.Prelude.{◌≡◌, ◌↔◌, ◌⊎◌, ◌<◌, ℕ, true, false, length, slice_get, List, Some, IfOk};
+ghost use Rattle.std.specs.Prelude.{◌≡◌, ◌↔◌, ◌⊎◌, ◌<◌, true, false, length, slice_get, List, Some, IfOk};
 ghost use Rattle.std.specs.List.{list_any};
 ghost use Rattle.address_deps.specs.Told.{PathGives, Tells, turn_gives};
 ghost use Rattle.address_deps.specs.Giving.{AreComplete, AreGiving, is_marked, names_followed, unmarked};

@@ -1,6 +1,6 @@
 //! What is told of an alias's target, by what its walks ask last.
 
-ghost use Rattle.std.specs.Prelude.{◌≡◌, not, map, IfOk};
+ghost use Rattle.std.specs.Prelude.{◌≡◌, map, IfOk};
 ghost use Rattle.std.specs.List.{list_all, list_any};
 ghost use Rattle.graph_form.specs.FirstPath.{answer_eq};
 ghost use Rattle.alias_ends.specs.Aliases.{alias_counts, alias_text, ends_word, first_told, has_other_end, other_types};

@@ -1,9 +1,8 @@
 //! Names.
 
 ghost use Rattle.std.specs.Prelude.{◌≡◌, ◌↔◌, ◌++◌, ◌+◌, ◌<◌, ◌≤◌, List, ℕ, [], ◌∷◌, length, take, sum_by, IsTrue, IfOk, OnOk, OnErr, IsErrOf};
-ghost use Rattle.std.specs.List.{AllByRecursion};
 ghost use Rattle.dns_data.specs.Answers.{AnswersOr};
-ghost use Rattle.dns_data.specs.Label.{IsLabel, label_cmp};
+ghost use Rattle.dns_data.specs.Label.{label_cmp};
 ghost use Rattle.dns_data.specs.Spelling.{if_short};
 ghost use Rattle.dns_data.specs.Name.{IsName, wire_octets, is_prefix, name_cmp, name_eq};
 ghost use Rattle.dns_data.specs.Encoding.{encoded, labels_of, EncodesName};

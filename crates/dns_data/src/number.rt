@@ -1,6 +1,6 @@
 //! Numbers in decimal digits.
 
-ghost use Rattle.std.specs.Prelude.{◌≡◌, ◌&&◌, ◌+◌, ◌-◌, ◌*◌, ◌≤◌, nat_le, SomeIff, IsTrue};
+ghost use Rattle.std.specs.Prelude.{◌≡◌, ◌&&◌, ◌+◌, ◌-◌, ◌*◌, nat_le, SomeIff, IsTrue};
 ghost use Rattle.dns_data.specs.Number.{number_up_to};
 ghost use Rattle.dns_data.specs.Octet.{is_digit};
 

@@ -1,6 +1,6 @@
 //! The first path of a graph that shows a fault, found without listing paths.
 
-ghost use Rattle.std.specs.Prelude.{◌≡◌, ◌||◌, ◌*◌, ◌<◌, ℕ, List, Bool, Contains, IfOk, IfNone, IfSome, MatchOption, length, map, false, slice_get};
+ghost use Rattle.std.specs.Prelude.{◌≡◌, ◌||◌, ◌*◌, ◌<◌, ℕ, List, Contains, IfOk, IfNone, IfSome, length, map, false};
 ghost use Rattle.dns_data.specs.Name.{Labels};
 ghost use Rattle.net_model.specs.Step.{Setting};
 ghost use Rattle.graph_form.specs.FirstPath.{

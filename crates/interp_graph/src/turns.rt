@@ -2,7 +2,7 @@
 //!
 //! Only an alias sends types different ways: walks of type CNAME end there, and those of the other types go on.
 
-ghost use Rattle.std.specs.Prelude.{◌≡◌, ◌≤◌, length, IfOk, OnOk, IsErrOf};
+ghost use Rattle.std.specs.Prelude.{◌≤◌, length, IfOk, OnOk, IsErrOf};
 ghost use Rattle.std.specs.List.{IsDistinct};
 ghost use Rattle.interp_graph.specs.StateKey.{state_eq};
 ghost use Rattle.interp_graph.specs.Listed.{ComesFrom, DraftGoes, Lists, Passes, but_cname, every};

@@ -1,9 +1,8 @@
 //! Files on a disk.
 
-ghost use Rattle.std.specs.Prelude.{◌≡◌, ◌<◌, ◌≤◌, ℕ, List, length, OnErr, IfOk};
+ghost use Rattle.std.specs.Prelude.{◌≡◌, ◌<◌};
 ghost use Rattle.std.specs.FinMap as map;
-ghost use Rattle.io_edges.specs.Counts.{NoneFell, Rose};
-ghost use Rattle.io_edges.specs.Files.{IsToldAnd, StaysTold, SameElsewhere, IsPieceFrom};
+ghost use Rattle.io_edges.specs.Files.{StaysTold, SameElsewhere};
 ghost use Rattle.io_edges.specs.DiskFiles.{told_by_disk};
 
 use crate::counts::raise;

@@ -1,6 +1,6 @@
 //! The way back to what was held before a piece.
 
-ghost use Rattle.std.specs.Prelude.{◌≡◌, ℕ, List, [], length};
+ghost use Rattle.std.specs.Prelude.{◌≡◌, ℕ, List, length};
 ghost use Rattle.master_lex.specs.declared.entry.Entry.{Entry};
 ghost use Rattle.master_lex.specs.declared.entry.Token.{Token};
 ghost use Rattle.master_lex.specs.States.{LexState, state_of};

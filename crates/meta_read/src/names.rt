@@ -1,11 +1,10 @@
 //! Names in metadata.
 
-ghost use Rattle.std.specs.Prelude.{IfOk, OnOk, OnErr, ◌≡◌, List, ℕ};
-ghost use Rattle.std.specs.List.{list_any};
+ghost use Rattle.std.specs.Prelude.{IfOk, ◌≡◌, List};
 ghost use Rattle.std.specs.BTreeSet as tree;
 ghost use Rattle.dns_data.specs.Answers.{AnswersOr};
 ghost use Rattle.dns_data.specs.Distinct.{distinct};
-ghost use Rattle.dns_data.specs.Name.{name_eq, name_cmp};
+ghost use Rattle.dns_data.specs.Name.{name_eq};
 ghost use Rattle.meta_read.specs.Names.{name_in_row};
 
 use crate::fault::MetaFault;

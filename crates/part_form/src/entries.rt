@@ -1,6 +1,6 @@
 //! The entries of the report of a part.
 
-ghost use Rattle.std.specs.Prelude.{◌≡◌, ◌∷◌, ◌++◌, [], codes, true, false, map, option_map, option_and_then, IfOk, Some, None};
+ghost use Rattle.std.specs.Prelude.{◌≡◌, ◌∷◌, ◌++◌, [], true, false, map, option_map, IfOk, Some, None};
 ghost use Rattle.serde_json.specs.View.{view as data_of};
 ghost use Rattle.net_model.proofs.FaultOrder.{classes_total};
 ghost use Rattle.std.proofs.lemmas.Cmp.{on_total};

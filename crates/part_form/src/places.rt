@@ -1,6 +1,6 @@
 //! Names, classes and faults, from values of JSON.
 
-ghost use Rattle.std.specs.Prelude.{◌≡◌, ◌∷◌, codes, IfOk, MatchOption, Some, option_map, option_and_then};
+ghost use Rattle.std.specs.Prelude.{◌≡◌, IfOk, Some, option_and_then};
 ghost use Rattle.serde_json.specs.View.{view};
 ghost use Rattle.part_form.specs.Places.{answers_fault, answers_in, class_in, class_of, cut_fault, cut_in, fault_at, fault_in, name_at, name_of, place_fault, place_in, type_in};
 

@@ -1,8 +1,7 @@
 //! What is read of the report of a part.
 
-ghost use Rattle.std.specs.Prelude.{◌≡◌, ℕ, List, map, codes, option_map, option_and_then, IfOk, OnOk, Some};
+ghost use Rattle.std.specs.Prelude.{◌≡◌, List, map, option_map, IfOk, Some};
 ghost use Rattle.serde_json.specs.View.{view as data_of};
-ghost use Rattle.meta_read.specs.Members.{value_of};
 ghost use Rattle.part_form.specs.Stated.{bound_at, bound_of, number_at, part_in, part_stated, part_with, told_entry, told_part};
 
 use crate::entries::{StatedEntry, stated_entries};

@@ -1,6 +1,6 @@
 //! What is told of the servers' names.
 
-ghost use Rattle.std.specs.Prelude.{◌≡◌, IfOk, IfSome, OnOk, IsErrOf};
+ghost use Rattle.std.specs.Prelude.{IfOk, IfSome, OnOk, IsErrOf};
 ghost use Rattle.address_deps.specs.Told.{IsToldOf};
 ghost use Rattle.query_verdicts.specs.Learnt.{AreKnown, AreToldOrPassed};
 ghost use Rattle.query_verdicts.specs.Verdict.{PassesStates};

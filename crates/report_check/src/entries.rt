@@ -1,8 +1,7 @@
 //! The entries of a report, one after the other.
 
-ghost use Rattle.std.specs.Prelude.{◌≡◌, ◌↔◌, ◌≤◌, ℕ, map, true, IfOk, IsErrOf, OnOk};
+ghost use Rattle.std.specs.Prelude.{◌≡◌, ◌≤◌, map};
 ghost use Rattle.std.specs.List.{AllByRecursion};
-ghost use Rattle.report_check.specs.Checked.{IsConfirmed, IsWrong, PassesWalks};
 ghost use Rattle.report_check.specs.Entries.{EntriesComeTo, EntryComesTo};
 ghost use Rattle.serde_json.specs.Data.{depth};
 ghost use Rattle.serde_json.specs.Read.{max_depth};

@@ -1,6 +1,6 @@
 //! The two sets of learnt addresses.
 
-ghost use Rattle.std.specs.Prelude.{◌≡◌, map, IfOk, IsErrOf, OnOk};
+ghost use Rattle.std.specs.Prelude.{◌≡◌, IfOk, IsErrOf, OnOk};
 ghost use Rattle.dns_data.specs.Name.{Labels};
 ghost use Rattle.net_model.specs.Nearest.{server_names};
 ghost use Rattle.report_check.specs.Checked.{LearningPasses};

@@ -1,7 +1,6 @@
 //! The answer of `ask`.
 
-ghost use Rattle.std.specs.Prelude.{◌≡◌, IfOk, OnOk};
-ghost use Rattle.serde_json.specs.Events.{SendsValue};
+ghost use Rattle.std.specs.Prelude.{◌≡◌, IfOk};
 ghost use Rattle.report_json.specs.Ask.{ask_value, ask_text};
 
 use crate::object::send_name;

@@ -2,7 +2,7 @@
 
 ghost use Rattle.std.specs.Prelude.{◌≡◌, IfOk, OnOk};
 ghost use Rattle.serde_json.specs.Data.{string};
-ghost use Rattle.serde_json.specs.Events.{SendsValue, SendsMembers};
+ghost use Rattle.serde_json.specs.Events.{SendsMembers};
 ghost use Rattle.report_json.specs.Json.{json_members};
 ghost use Rattle.report_json.specs.Sites.{site_value, sites_members, sites_value, sites_text, scope_value, scope_text};
 

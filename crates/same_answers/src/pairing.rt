@@ -20,7 +20,7 @@ use crate::naming::{JointGround, PairNaming};
 use crate::straight::straight_end;
 use crate::verdict::PairEnd;
 use base_names::joint_base_graph;
-use dns_data::{List, Name, NoMemory};
+use dns_data::{Name, NoMemory};
 use label_graph::LabelGraph;
 use net_model::Config;
 use query_classes::{LiveName, TreeName};

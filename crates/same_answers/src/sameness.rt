@@ -13,7 +13,7 @@ use crate::naming::{JointGround, PairNaming};
 use crate::pairing::Pairing;
 use crate::search::{Sought, SoughtClass};
 use crate::verdict::PairEnd;
-use dns_data::{List, Name, NoMemory, RrType};
+use dns_data::{List, Name, RrType};
 use query_classes::TreeName;
 use query_verdicts::{JudgeFault, NameVerdict};
 use verdict_book::{Filed, Work};

@@ -1,6 +1,6 @@
 //! What the caller does where the workers left some tickets.
 
-ghost use Rattle.std.specs.Prelude.{◌≡◌, ◌+◌, ◌-◌, ◌<◌, ◌≤◌, ◌^◌, ◌∷◌, [], ◌++◌, length, IfErr, OnOk, OnErr, Some, None, min};
+ghost use Rattle.std.specs.Prelude.{◌≡◌, ◌+◌, ◌-◌, ◌<◌, ◌≤◌, ◌^◌, ◌∷◌, [], ◌++◌, length, IfErr, OnOk, OnErr, Some, min};
 ghost use Rattle.pool_core.specs.declared.history.HistoryEntry.TheVariants.{File as FileOf};
 ghost use Rattle.pool_core.specs.History.{issued_in};
 ghost use Rattle.verdict_book.specs.Books.{NoneInHand, claims_in, filings_in, unfiled_in};

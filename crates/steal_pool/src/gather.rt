@@ -1,8 +1,6 @@
 //! What is gathered from the slots when the workers have ended.
 
 ghost use Rattle.std.specs.Prelude.{◌≡◌, ◌+◌, ◌<◌, ◌^◌, All, vec_len, None};
-ghost use Rattle.pool_core.specs.History.{first_stop};
-ghost use Rattle.verdict_book.specs.Books.{claims_in, filings_in};
 ghost use Rattle.steal_pool.specs.Ends.{first_cause, stop_of};
 ghost use Rattle.steal_pool.specs.Slots.{IsSettledSlot};
 ghost use Rattle.steal_pool.specs.Runs.{IsTally, IsGathered};

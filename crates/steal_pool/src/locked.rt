@@ -1,6 +1,6 @@
 //! The book behind the lock, with its accounts.
 
-ghost use Rattle.std.specs.Prelude.{◌≡◌, ◌+◌, ◌<◌, ◌≤◌, ◌^◌, ℕ, [], length, IfOk, IfErr, IfSome, OnOk, MatchResult, Err, true};
+ghost use Rattle.std.specs.Prelude.{◌≡◌, ◌+◌, ◌<◌, ◌^◌, ℕ, [], length, IfOk, IfErr, IfSome, OnOk, MatchResult, Err, true};
 ghost use Rattle.pool_core.specs.declared.event.StopCause.TheVariants.{Full};
 ghost use Rattle.verdict_book.specs.Books.{claims_in, filings_in};
 ghost use Rattle.verdict_book.specs.Items.{Reached, ReachesMore};

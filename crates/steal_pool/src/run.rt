@@ -1,6 +1,6 @@
 //! A run of the pool: the whole tree of a work, judged by workers.
 
-ghost use Rattle.std.specs.Prelude.{◌≡◌, ◌+◌, ◌≤◌, ◌<◌, ◌^◌, length, IfOk, IfErr, OnOk};
+ghost use Rattle.std.specs.Prelude.{◌≡◌, ◌+◌, ◌≤◌, ◌<◌, length, IfOk, IfErr, OnOk};
 ghost use Rattle.verdict_book.specs.Books.{claims_in, filings_in};
 ghost use Rattle.verdict_book.specs.Items.{ReachesMore};
 ghost use Rattle.verdict_book.specs.Lists.{IsWholeTree, IsPoolFault};

@@ -1,6 +1,6 @@
 //! Lookups of names with an open tail.
 
-ghost use Rattle.std.specs.Prelude.{◌≡◌, ◌++◌, ◌∷◌, [], true, false, AllPairs, IfSome, IfOk};
+ghost use Rattle.std.specs.Prelude.{◌≡◌, ◌++◌, ◌∷◌, [], true, false, IfSome, IfOk};
 ghost use Rattle.std.specs.List.{AllByRecursion};
 ghost use Rattle.dns_data.specs.Name.{is_prefix};
 ghost use Rattle.dns_data.specs.TypeSet.{has_bit};

@@ -1,6 +1,6 @@
 //! Rewrites of a name, and the states in which a query begins.
 
-ghost use Rattle.std.specs.Prelude.{◌≡◌, ◌+◌, ◌*◌, ◌^◌, ◌<◌, ◌&&◌, map, None, Some, IfOk};
+ghost use Rattle.std.specs.Prelude.{◌≡◌, ◌+◌, ◌^◌, ◌<◌, ◌&&◌, map, None, Some, IfOk};
 ghost use Rattle.std.specs.Option.{option_map};
 ghost use Rattle.net_model.specs.Nearest.{nearest_of};
 ghost use Rattle.net_model.specs.Step.{Go, arrived, rewritten, start};

@@ -1,8 +1,6 @@
 //! The files of a drill, as files that are read.
 
-ghost use Rattle.std.specs.Prelude.{◌≡◌, ℕ, ◌<◌, ◌≤◌, List, length, IfOk, OnErr};
-ghost use Rattle.io_edges.specs.Counts.{NoneFell, Rose};
-ghost use Rattle.io_edges.specs.Files.{IsPieceFrom, IsToldAnd, SameElsewhere, StaysTold};
+ghost use Rattle.std.specs.Prelude.{◌≡◌, ◌<◌, ◌≤◌, IfOk};
 ghost use Rattle.zone_maker.specs.Drill.{drill};
 ghost use Rattle.zone_maker.specs.Source.{no_failures, told_of};
 

@@ -2,7 +2,7 @@
 
 ghost use Rattle.std.specs.Prelude.{◌≡◌, ◌<◌, ◌≤◌, ◌++◌, IfOk, OnOk};
 ghost use Rattle.std.specs.String.{string_bytes};
-ghost use Rattle.zone_maker.specs.Drill.{address_end, meta_row, meta_text, delegation_line, server_line, referral_lines, root_text, soa_end, soa_line, web_line, alias_line, gone_line, next_zone, made_zone_text, zone_file};
+ghost use Rattle.zone_maker.specs.Drill.{address_end, meta_row, meta_text, delegation_line, server_line, referral_lines, root_text, soa_end, soa_line, web_line, alias_line, gone_line, made_zone_text, zone_file};
 
 use dns_data::NoMemory;
 use std::alloc::Global;

@@ -1,6 +1,6 @@
 //! Columns of lines.
 
-ghost use Rattle.std.specs.Prelude.{◌≡◌, ◌++◌, ◌&&◌, ◌==◌, not, true, codes, decimal, OnOk};
+ghost use Rattle.std.specs.Prelude.{◌≡◌, ◌++◌, ◌&&◌, ◌==◌, not, true, decimal, OnOk};
 ghost use Rattle.std.specs.List.{list_all};
 ghost use Rattle.dns_data.specs.Spelling.{name_text};
 ghost use Rattle.zone_map.specs.Columns.{as_written, file_octet_text, file_text, is_held, is_plain, next_written, tab, written_octet};

@@ -2,7 +2,6 @@
 
 ghost use Rattle.std.specs.Prelude.{◌≡◌, ◌++◌, ◌∷◌, ◌&&◌, ◌||◌, [], false, true, not, map, IfOk, OnOk};
 ghost use Rattle.dns_data.specs.Name.{is_prefix};
-ghost use Rattle.dns_data.specs.Spelling.{name_text};
 ghost use Rattle.net_model.specs.Zone.{ns_names};
 ghost use Rattle.name_ends.specs.Asked.{ends_in};
 ghost use Rattle.name_ends.specs.Ends.{is_dead};

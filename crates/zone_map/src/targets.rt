@@ -1,9 +1,8 @@
 //! The lines of targets.
 
-ghost use Rattle.std.specs.Prelude.{◌≡◌, ◌++◌, ◌∷◌, [], Some, None, if◌then◌else◌, IfOk, OnOk};
+ghost use Rattle.std.specs.Prelude.{◌≡◌, ◌++◌, Some, None, if◌then◌else◌, IfOk, OnOk};
 ghost use Rattle.std.specs.List.{flat_map};
 ghost use Rattle.std.specs.Option.{option_map};
-ghost use Rattle.dns_data.specs.Spelling.{name_text};
 ghost use Rattle.name_ends.specs.Asked.{ends_in};
 ghost use Rattle.zone_map.specs.Records.{record_columns};
 ghost use Rattle.zone_map.specs.Targets.{are_partly_dead, ends_dead, host_of, is_name_server, is_pointer, is_reverse, kinds_text, leads_nowhere, leads_partly, record_lines, row_lines, seems_dead, target_columns, target_in, target_line, target_lines, targets_of, type_ends_text, word_if};

@@ -1,4 +1,5 @@
 -- Words of classes drawn at random.
+-- docs/draw.py works them out once more, by plain rules; docs/draw.py class_word draws others.
 use Rattle.std.specs.Prelude.{◌≡◌, refl, codes, Some, None}
 use Rattle.master_read.specs.Words.{class_word, is_some_word}
 use Rattle.master_read.specs.declared.words.ClassWord.TheVariants.{NotIn}

@@ -1,4 +1,5 @@
 -- Words of types drawn at random.
+-- docs/draw.py works them out once more, by plain rules; docs/draw.py type_word draws others.
 use Rattle.std.specs.Prelude.{◌≡◌, refl, codes, Some, None}
 use Rattle.dns_data.specs.declared.rr_type.RrType.TheVariants as types
 use Rattle.master_read.specs.Words.{type_word, type_numbered, is_some_word}

@@ -1,4 +1,5 @@
 -- The order of faults drawn at random.
+-- docs/draw.py works them out once more, by plain rules.
 use Rattle.std.specs.Prelude.{◌≡◌, refl, [], ◌∷◌, codes}
 use Rattle.std.specs.declared.cmp.Ordering.TheVariants.{Less, Equal, Greater}
 use Rattle.net_model.specs.declared.class.Class.TheVariants.{Exact, Below}

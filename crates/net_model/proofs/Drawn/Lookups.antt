@@ -1,4 +1,5 @@
 -- Lookups drawn at random: which names exist, and what the zones answer.
+-- docs/draw.py works them out once more, by plain rules.
 use Rattle.std.specs.Prelude.{◌≡◌, refl, true, false, [], ◌∷◌, codes}
 use Rattle.dns_data.specs.declared.rdata.Rdata.TheVariants.{A, Ns, Cname, Soa, Mx, Txt, Aaaa, Srv, Dname}
 use Rattle.net_model.specs.declared.config.Zone.{Zone}

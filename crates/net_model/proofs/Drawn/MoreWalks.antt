@@ -1,4 +1,5 @@
 -- All walks of queries drawn at random, and that there is none at the neighbouring numbers.
+-- docs/draw.py works them out once more, by plain rules.
 use Rattle.std.specs.Prelude.{◌≡◌, refl, true, false, [], ◌∷◌, codes, replicate, Some, None}
 use Rattle.std.specs.Fmt.{digits}
 use Rattle.dns_data.specs.declared.rdata.Rdata.TheVariants.{A, Ns, Cname, Soa, Hinfo, Aaaa, Dname, Other}

@@ -1,4 +1,5 @@
 -- Walks drawn at random with their unnamed labels replaced: they are the walks of the other query.
+-- docs/draw.py works them out once more, by plain rules.
 use Rattle.std.specs.Prelude.{◌≡◌, refl, true, [], ◌∷◌, codes, Some, None, option_map}
 use Rattle.dns_data.specs.declared.rdata.Rdata.TheVariants.{A, Ns, Cname, Soa, Ptr, Dname, Caa}
 use Rattle.net_model.specs.declared.config.Config.{Config}

@@ -1,4 +1,5 @@
 -- Nearest zones and the branches of states, drawn at random.
+-- docs/draw.py works them out once more, by plain rules.
 use Rattle.std.specs.Prelude.{◌≡◌, refl, true, false, [], ◌∷◌, codes, Some, None}
 use Rattle.dns_data.specs.declared.rdata.Rdata.TheVariants.{A, Ns, Soa, Hinfo, Srv, Dname, Caa}
 use Rattle.net_model.specs.declared.config.Config.{Config}

@@ -1,4 +1,5 @@
 -- All walks of queries drawn at random, and that there is none at the neighbouring numbers.
+-- docs/draw.py works them out once more, by plain rules.
 use Rattle.std.specs.Prelude.{◌≡◌, refl, true, [], ◌∷◌, codes, Some, None}
 use Rattle.dns_data.specs.declared.rdata.Rdata.TheVariants.{A, Ns, Cname, Soa, Ptr, Mx, Txt, Aaaa, Srv, Dname, Caa, Other}
 use Rattle.net_model.specs.declared.config.Config.{Config}

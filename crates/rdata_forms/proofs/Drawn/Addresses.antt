@@ -1,4 +1,5 @@
 -- Texts of addresses drawn at random.
+-- docs/draw.py works them out once more, by plain rules; docs/draw.py ipv4_of draws others.
 use Rattle.std.specs.Prelude.{◌≡◌, refl, [], ◌∷◌, codes, Some, None}
 use Rattle.rdata_forms.specs.Addresses.{ipv4_of, ipv6_of}
 

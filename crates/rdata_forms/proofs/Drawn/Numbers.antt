@@ -1,4 +1,5 @@
 -- Numbers drawn at random.
+-- docs/draw.py works them out once more, by plain rules; docs/draw.py number_in draws others.
 use Rattle.std.specs.Prelude.{◌≡◌, refl, codes, Ok, Err}
 use Rattle.rdata_forms.specs.Numbers.{number_in}
 use Rattle.rdata_forms.specs.declared.fault.RdataFault.TheVariants.{BadNumber}

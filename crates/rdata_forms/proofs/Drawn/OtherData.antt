@@ -1,4 +1,5 @@
 -- Data of other types drawn at random.
+-- docs/draw.py works them out once more, by plain rules.
 use Rattle.std.specs.Prelude.{◌≡◌, refl, [], ◌∷◌, codes, Ok, Err}
 use Rattle.dns_data.specs.declared.rdata.Rdata.TheVariants.{Other}
 use Rattle.rdata_forms.specs.Forms.{other_of}

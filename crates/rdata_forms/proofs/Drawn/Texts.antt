@@ -1,4 +1,5 @@
 -- Strings and tags drawn at random.
+-- docs/draw.py works them out once more, by plain rules; docs/draw.py string_of draws others.
 use Rattle.std.specs.Prelude.{◌≡◌, refl, codes, Ok, Err}
 use Rattle.rdata_forms.specs.Texts.{string_of, tag_of}
 use Rattle.rdata_forms.specs.declared.fault.RdataFault.TheVariants.{BadNumber, TextTooLong}

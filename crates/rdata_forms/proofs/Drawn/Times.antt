@@ -1,4 +1,5 @@
 -- Times drawn at random.
+-- docs/draw.py works them out once more, by plain rules; docs/draw.py time_of draws others.
 use Rattle.std.specs.Prelude.{◌≡◌, refl, codes, Some, None}
 use Rattle.rdata_forms.specs.Times.{time_of}
 

@@ -1,7 +1,5 @@
 //! What a thief does at the deque of another worker.
 
-ghost use Rattle.std.specs.Prelude.{◌≡◌, ◌∷◌, [], ◌++◌};
-ghost use Rattle.steal_pool.specs.Rule.{seat_view, WasEmpty};
 ghost use Rattle.steal_pool.specs.Rows.{other_view, IsSameSeat, TakesOne};
 
 use super::OtherRow;
