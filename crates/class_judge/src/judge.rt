@@ -6,6 +6,8 @@ ghost use Rattle.dns_data.proofs.Names.{same_names};
 ghost use Rattle.dns_data.specs.Name.{name_cmp};
 ghost use Rattle.graph_form.specs.Report.{IsReport};
 ghost use Rattle.label_graph.specs.Pairs.{AreSame};
+ghost use Rattle.net_model.specs.Reading.{ground_of};
+ghost use Rattle.query_classes.specs.TreeNames.{AreBaseNamesOf};
 ghost use Rattle.query_classes.proofs.TreeItems as items;
 ghost use Rattle.query_verdicts.specs.Carried.{whole_config};
 ghost use Rattle.query_verdicts.specs.Kept.{IsKeptReport};
@@ -114,7 +116,7 @@ impl<'a, N: Naming> Judge<'a, N> {
     }
 
     /// The judge with the graphs of the configuration's queries, the graph of the base names of the subject's ground,
-    /// that of the configuration's own base names where the ground is another, and the subject's name.
+    /// that of the configuration's own base names where the ground may have others, and the subject's name.
     pub fn new(
         alloc: Global,
         graphs: QueryGraphs<'a>,
@@ -127,6 +129,14 @@ impl<'a, N: Naming> Judge<'a, N> {
     {
         let names = NameJudge::new(alloc, graphs, names, own, first);
         Judge { names }
+    }
+
+    /// The graphs of the configuration's queries, and the graph of the configuration's own base names: for another judge.
+    pub fn into_graphs(self) -> (QueryGraphs<'a>, LabelGraph)
+        ensures queries { result.0 ≡ queries_of N.subject N.states }
+        ensures base { AreBaseNamesOf (ground_of N.subject.config) result.1 }
+    {
+        self.names.into_graphs()
     }
 
     /// The queries of the configuration, with what is learnt of it: for whoever shows their graphs beside the report.

@@ -2,6 +2,7 @@
 use Rattle.std.specs.Prelude.{◌≡◌, ℕ, Option, MatchOption}
 use Rattle.dns_data.specs.Name.{Labels}
 use Rattle.graph_form.specs.Report.{Subject}
+use Rattle.label_graph.specs.Pairs.{AreSame}
 use Rattle.net_model.specs.declared.class.Class.TheVariants.{Below}
 use Rattle.net_model.specs.Class.{IsRepresentative}
 use Rattle.net_model.specs.Reading.{Ground, Covers, ground_of}
@@ -16,12 +17,12 @@ pub record IsCovering (subject : Subject) : Type 0 where
   pub in_tree : IsInTree subject.ground subject.below
 
 -- the queries are those of the subject's configuration, the graph is that of its ground, and the first name is its own; the
--- other graph is that of the configuration's own base names, where the subject's ground is another
+-- other graph is that of the configuration's own base names, where the subject's ground may have other names
 pub record AreOfSubject (subject : Subject) (states : ℕ) (queries : LimitedQueries) (names : Ground) (own : Option Ground) (first : Labels) : Type 0 where
   pub covering : IsCovering subject
   pub queries_are : queries ≡ queries_of subject states
   pub names_are : AreBaseNamesOf subject.ground names
-  pub own_are : MatchOption own (subject.ground ≡ ground_of subject.config) (AreBaseNamesOf (ground_of subject.config))
+  pub own_are : MatchOption own (AreSame subject.ground (ground_of subject.config)) (AreBaseNamesOf (ground_of subject.config))
   pub first_is : first ≡ subject.below
 
 -- what represents the class below a name, or nothing where nothing does

@@ -4,8 +4,9 @@ ghost use Rattle.std.specs.Prelude.{◌≡◌, ◌++◌, [], true, IfOk, IfSome,
 ghost use Rattle.dns_data.specs.Name.{Labels};
 ghost use Rattle.net_model.specs.Tails.{IsUnnamedTail};
 ghost use Rattle.net_model.specs.declared.class.Class.TheVariants.{Below};
+ghost use Rattle.net_model.specs.Reading.{ground_of};
 ghost use Rattle.query_verdicts.specs.Passed.{IsFirstServerPassed};
-ghost use Rattle.query_verdicts.specs.Queries.{AreStraightEnds, IsLeastGraph, IsToldFor, StandsFor};
+ghost use Rattle.query_verdicts.specs.Queries.{AreStraightEnds, IsLeastGraph, IsToldFor, StandsFor, queries_of};
 ghost use Rattle.query_verdicts.specs.Subjects.{AreOfSubject, IsCovering, RepresentsBelow};
 ghost use Rattle.query_verdicts.specs.Verdict.{IsBelowVerdict, IsClassVerdict, IsNameVerdict, IsQuiet, PassesStates, SomeServerPasses};
 ghost use Rattle.query_verdicts.specs.declared.verdict.ClassVerdict.TheVariants.{Faults};
@@ -54,7 +55,7 @@ impl<'a, S: OnSubject> Model for NameJudge<'a, S> {
 
 impl<'a, S: OnSubject> NameJudge<'a, S> {
     /// The judge with the graphs of the configuration's queries, the graph of the base names of the subject's ground,
-    /// that of the configuration's own base names where the ground is another, and the subject's name.
+    /// that of the configuration's own base names where the ground may have others, and the subject's name.
     pub fn new(
         alloc: Global,
         graphs: QueryGraphs<'a>,
@@ -72,6 +73,23 @@ impl<'a, S: OnSubject> NameJudge<'a, S> {
             own,
             first,
             of: PhantomData,
+        }
+    }
+
+    /// The graphs of the configuration's queries, and the graph of the configuration's own base names: for another judge.
+    pub fn into_graphs(self) -> (QueryGraphs<'a>, LabelGraph)
+        ensures queries { result.0 ≡ queries_of S.subject S.states }
+        ensures base { AreBaseNamesOf (ground_of S.subject.config) result.1 }
+    {
+        let NameJudge {
+            graphs,
+            names,
+            own,
+            ..
+        } = self;
+        match own {
+            Some(own) => (graphs, own),
+            None => (graphs, names),
         }
     }
 

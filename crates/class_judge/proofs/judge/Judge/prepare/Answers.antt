@@ -1,4 +1,4 @@
-use Rattle.std.proofs.Common.{ℕ, ◌∙◌, None, refl, ap, subst}
+use Rattle.std.proofs.Common.{ℕ, ◌∙◌, None, ap, subst}
 use Rattle.graph_form.specs.Report.{Subject}
 use Rattle.label_graph.specs.Pairs.{AreSame}
 use Rattle.net_model.specs.declared.config.Config.{Config}
@@ -21,6 +21,6 @@ new-requires g c =
             c.in_ok-base.ensures.same;
         order = c.in_ok-base.ensures.order;
       };
-      own_are = refl;
+      own_are = record { names = λ name. (λ has. has, λ has. has); redirections = λ redirection. (λ has. has, λ has. has) };
       first_is = c.root.ensures;
     })
