@@ -34,4 +34,11 @@ pub trait Files {
         ensures stays { StaysTold (told self.old) (told self.new) }
         ensures others { SameElsewhere name.now (told self.old) (told self.new) }
         ensures never_fall { NoneFell (faults self.old) (faults self.new) };
+
+    /// Lets go of the octets that it holds, where it holds them for later readings: its reader is done, and a reading after
+    /// it may fail. What was told stays told.
+    fn let_go_of_all(&mut self)
+        ensures told { told self.new ≡ told self.old }
+        ensures faults { faults self.new ≡ faults self.old }
+    {}
 }

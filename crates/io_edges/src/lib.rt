@@ -6,7 +6,8 @@
 //! start, and fail exactly when they are told to. Files of a disk tell a name from its first reading on; the sink over a
 //! writer tells nothing of what it took, and passed on what the writer holds.
 //!
-//! Costs: a file of a disk is read once, and its octets stay in memory as long as the source.
+//! Costs: a file of a disk is read once, and its octets stay in memory until the source is told to let go of them, which a
+//! reader does when it is done; what was told stays told.
 #![tactic(auto)]
 
 mod calls;

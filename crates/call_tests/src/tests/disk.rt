@@ -10,7 +10,7 @@ const FILE: &str = "call_tests_ten_octets.txt";
 const LATER: &str = "call_tests_written_later.txt";
 
 // A file gives what it held at its first reading, and one that wasn't there is read once it is. The current folder is no
-// file.
+// file. Once all octets are let go of, every reading fails.
 #[test]
 fn files_of_a_disk_are_read(rt: HostRuntime) -> Result<(), Fail> {
     fs::write(&rt, FILE, "0123456789")?;
@@ -25,6 +25,9 @@ fn files_of_a_disk_are_read(rt: HostRuntime) -> Result<(), Fail> {
     fs::write(&rt, LATER, "now")?;
     assert!(rt; gives(&mut files, FILE, 2, Some(b"2345")));
     assert!(rt; gives(&mut files, LATER, 0, Some(b"now")));
+    files.let_go_of_all();
+    assert!(rt; gives(&mut files, FILE, 0, None));
+    assert!(rt; gives(&mut files, LATER, 0, None));
     fs::remove_file(&rt, FILE)?;
     fs::remove_file(&rt, LATER)?;
     Ok(())
