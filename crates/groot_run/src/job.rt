@@ -12,7 +12,7 @@ use crate::check::check;
 use crate::classes::list_classes;
 use crate::drill::drill;
 use crate::judging::CheckLimits;
-use crate::load::configuration;
+use crate::load::last_configuration;
 use crate::recheck::recheck;
 use crate::same::same;
 use crate::scope::scope;
@@ -45,7 +45,12 @@ pub(crate) fn of_job<F: Files, G: Gate + Sync, R: Threads + Wait + Sync>(
     ensures opens { JobOpensNoOther program (F.told files.old) (F.told files.new) (Ok job.now) }
 {
     match job {
-        Job::OfConfig { meta, task } => match configuration(alloc, program, files, meta.as_str()) {
+        Job::OfConfig { meta, task } => match last_configuration(
+            alloc,
+            program,
+            files,
+            meta.as_str(),
+        ) {
             Ok(config) => {
                 let ending = of_task(rt, alloc, program, &config, task, gate, sites);
                 // The run ends so, and the records of all zones with it: none is taken apart.

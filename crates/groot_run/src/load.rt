@@ -44,3 +44,23 @@ pub(crate) fn configuration<F: Files>(
         Err(fault) => Err(Ending::not_loaded(alloc, meta, fault)),
     }
 }
+
+/// The configuration that the metadata file of this name gives to the program, or how a run ends over files that give none,
+/// of a run that reads nothing after it: the files let go of their octets.
+pub(crate) fn last_configuration<F: Files>(
+    alloc: Global,
+    program: Program,
+    files: &mut F,
+    meta: &str,
+) -> Result<Config, Ending>
+    ensures ok { IfOk result (λ config. conf_of program meta.now (F.told files.new) ≡ Reads config) }
+    ensures err { IfErr result (EndsWithoutConfig program meta.now (F.told files.new) (F.faults files.old) (F.faults files.new)) }
+    ensures stays { StaysTold (F.told files.old) (F.told files.new) }
+    ensures never_fall { NoneFell (F.faults files.old) (F.faults files.new) }
+    ensures from_the_start { TellsAll (F.told files.old) → F.told files.new ≡ F.told files.old }
+    ensures opens { OpensNoOther (conf_of program meta.now) (F.told files.old) (F.told files.new) }
+{
+    let config = configuration(alloc, program, files, meta);
+    files.let_go_of_all();
+    config
+}

@@ -56,7 +56,10 @@ fn of_config<F: Files>(
     ensures opens { OpensNoOther (file_octets (limits_of program) report.now) (F.told files.old) (F.told files.new) }
 {
     match read_file(alloc, limits_of(program), files, report) {
-        Ok(octets) => of_octets(alloc, config, report, octets.items()),
+        Ok(octets) => {
+            files.let_go_of_all();
+            of_octets(alloc, config, report, octets.items())
+        }
         Err(fault) => Ending::not_loaded(alloc, report, fault),
     }
 }

@@ -17,7 +17,7 @@ ghost use Rattle.groot_run.specs.Programs.{conf_of};
 use crate::counted::{count_redirected, either_redirects};
 use crate::counts::put_count;
 use crate::ending::too_many_states;
-use crate::load::configuration;
+use crate::load::{configuration, last_configuration};
 use dns_data::{Name, NoMemory, Octets, RrType};
 use groot_line::{Program, USUAL_REWRITES, USUAL_WORKERS};
 use io_edges::{Files, Gate};
@@ -69,7 +69,7 @@ fn with_second<F: Files, G: Gate + Sync, R: Threads + Wait + Sync>(
     ensures from_the_start { TellsAll (F.told files.old) → F.told files.new ≡ F.told files.old }
     ensures opens { OpensNoOther (conf_of program second.now) (F.told files.old) (F.told files.new) }
 {
-    match configuration(alloc, program, files, second) {
+    match last_configuration(alloc, program, files, second) {
         Ok(config) => compared(rt, alloc, first, &config, program.usual_names(), gate),
         Err(ending) => ending,
     }

@@ -22,9 +22,10 @@ returns-in-Ok-clause-cause g c =
     let after = g.F.Files.faults c.read_file.new.files in
     let report = c.args.report.now in
     let config = c.args.config.now in
-    subst (EndsWithin told before after report (IsRechecked report config) c.of_octets.result) c.limits_of.ensures
+    rw (c.let_go_of_all.ensures.told, c.let_go_of_all.ensures.faults)
+    (subst (EndsWithin told before after report (IsRechecked report config) c.of_octets.result) c.limits_of.ensures
     (over_file c.limits_of.result told before after report c.in-Ok.octets (IsRechecked report config) c.of_octets.result c.in-Ok.ensures.gives
-    (subst (λ (octets : List ℕ). IsRechecked report config octets c.of_octets.result ⊎ (c.of_octets.result ≡ no_memory)) c.items.ensures c.of_octets.ensures))
+    (subst (λ (octets : List ℕ). IsRechecked report config octets c.of_octets.result ⊎ (c.of_octets.result ≡ no_memory)) c.items.ensures c.of_octets.ensures)))
 
 pub returns-in-Err-clause-cause : goal.returns-in-Err-clause-cause
 returns-in-Err-clause-cause g c =
