@@ -12,7 +12,7 @@ use Rattle.dns_data.specs.Name.{Labels, name_eq, name_cmp}
 use Rattle.dns_data.proofs.Names.{name_eq_decides}
 use Rattle.net_model.specs.declared.config.Server.{Server}
 use Rattle.net_model.specs.declared.config.Zone.{Zone}
-use Rattle.config_load.specs.Hosted.{server_place, with_zone_at, ArePlaces, AreTellers}
+use Rattle.config_load.specs.Hosted.{server_place, with_zone_at, ArePlaces, AreHeld}
 use Rattle.config_load.specs.Servers.{has_zone, with_zone, given}
 use Rattle.config_load.specs.declared.fault.LoadFault.TheVariants.{ZoneTwice}
 
@@ -159,8 +159,8 @@ ArePlaces-more old new name zones servers are none updates other =
     by_test false apart = or_none (server_place other servers)
 
 -- a set that tells which zones servers have tells of one zone more once its name and origin are put in
-pub AreTellers-more : (old new : tree.BTreeSet (List Labels)) (name : Labels) (zone : Zone) (servers : List Server) → AreTellers old servers → tree.Updates (slice_cmp name_cmp) old new (name ∷ zone.origin ∷ []) true → AreTellers new (with_zone name zone servers)
-AreTellers-more old new name zone servers are updates other origin =
+pub AreHeld-more : (old new : tree.BTreeSet (List Labels)) (name : Labels) (zone : Zone) (servers : List Server) → AreHeld old servers → tree.Updates (slice_cmp name_cmp) old new (name ∷ zone.origin ∷ []) true → AreHeld new (with_zone name zone servers)
+AreHeld-more old new name zone servers are updates other origin =
     updates.0 (other ∷ origin ∷ [])
     ∙ (λ i. cond (test i) true (are other origin i))
     ∙ by_tests (name_eq other name) (name_eq origin zone.origin) (has_zone other origin servers)

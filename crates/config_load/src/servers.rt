@@ -15,26 +15,26 @@ use std::alloc::Global;
 use std::collections::{BTreeMap, BTreeSet};
 use std::marker::Model;
 
-/// Servers in the order in which they came, each with its zones, with the place of each by its name, and what tells each
-/// zone: the name of its server and its origin.
+/// Servers in the order in which they came, each with its zones, with the place of each by its name, and the server's name
+/// and the origin of each zone that one of them holds.
 #[derive(Drop)]
 pub(crate) struct Servers {
     servers: Vec<Server>,
     places: BTreeMap<Name, usize>,
-    tellers: BTreeSet<List<Name>>,
+    held: BTreeSet<List<Name>>,
 }
 
 impl Model for Servers {
     ghost use Rattle.std.specs.Prelude.{List};
     ghost use Rattle.net_model.specs.Configured.{AreConsistent};
     ghost use Rattle.net_model.specs.declared.config.Server.{Server};
-    ghost use Rattle.config_load.specs.Hosted.{ArePlaces, AreTellers};
+    ghost use Rattle.config_load.specs.Hosted.{ArePlaces, AreHeld};
 
     ghost Value = { List Server };
 
     ghost view = { λ a. a.servers.items };
 
-    ghost invariant = { λ a. (ArePlaces a.places a.servers.items) × (AreTellers a.tellers a.servers.items) × AreConsistent a.servers.items };
+    ghost invariant = { λ a. (ArePlaces a.places a.servers.items) × (AreHeld a.held a.servers.items) × AreConsistent a.servers.items };
 }
 
 impl Servers {
@@ -46,7 +46,7 @@ impl Servers {
         Servers {
             servers: Vec::new(alloc),
             places: BTreeMap::new(alloc),
-            tellers: BTreeSet::new(alloc),
+            held: BTreeSet::new(alloc),
         }
     }
 
@@ -73,16 +73,16 @@ impl Servers {
         let Servers {
             mut servers,
             mut places,
-            mut tellers,
+            mut held,
         } = self;
-        if !tellers.insert(teller(alloc, &name, &zone.origin)?)? {
+        if !held.insert(server_and_origin(alloc, &name, &zone.origin)?)? {
             return Err(LoadFault::ZoneTwice { row });
         }
         put_zone(alloc, &mut servers, &mut places, name, zone)?;
         Ok(Servers {
             servers,
             places,
-            tellers,
+            held,
         })
     }
 }
@@ -113,14 +113,14 @@ fn push_zone(servers: &mut Vec<Server>, place: usize, zone: Zone) -> Result<(), 
     servers[place].zones.push(zone)
 }
 
-/// What tells a zone: the name of its server and its origin.
-fn teller(alloc: Global, name: &Name, origin: &Name) -> Result<List<Name>, NoMemory>
-    ensures { IfOk result (λ teller. teller ≡ name.now ∷ origin.now ∷ []) }
+/// The name of a zone's server, and its origin: what tells the zone apart from others.
+fn server_and_origin(alloc: Global, name: &Name, origin: &Name) -> Result<List<Name>, NoMemory>
+    ensures { IfOk result (λ server_and_origin. server_and_origin ≡ name.now ∷ origin.now ∷ []) }
 {
-    let mut teller = List::new(alloc);
-    teller.push(name.copy(alloc)?)?;
-    teller.push(origin.copy(alloc)?)?;
-    Ok(teller)
+    let mut server_and_origin = List::new(alloc);
+    server_and_origin.push(name.copy(alloc)?)?;
+    server_and_origin.push(origin.copy(alloc)?)?;
+    Ok(server_and_origin)
 }
 
 /// Puts a server with one zone behind the others, and keeps its place.
