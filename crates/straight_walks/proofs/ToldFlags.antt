@@ -16,7 +16,7 @@ use Rattle.net_model.specs.declared.place.Cut.{Cut}
 use Rattle.net_model.specs.declared.walk.Hop.TheVariants.{Refer}
 use Rattle.net_model.specs.declared.walk.State.{State}
 use Rattle.zone_tree.specs.Tree.{ZoneTree}
-use Rattle.zone_lookup.specs.CutFlags.{flags_of, is_quiet, lacks_address}
+use Rattle.zone_lookup.specs.CutFlags.{flags_of, glue_alone, is_quiet, lacks_address}
 use Rattle.zone_lookup.specs.CutTable.{IsToldOf}
 use Rattle.zone_lookup.specs.Leads.{IsKnownServer, IsLead}
 use Rattle.zone_lookup.specs.ReferralFaults.{if_shown, referral_faults}
@@ -26,7 +26,7 @@ use Rattle.zone_lookup.specs.declared.cut_flags.CutFlags.{CutFlags}
 use Rattle.zone_lookup.specs.declared.leads.Lead.TheVariants as lead
 use Rattle.zone_lookup.proofs.Leading.{refers_by}
 use Rattle.zone_lookup.proofs.ReferralParts.{each_part, shown_one}
-use Rattle.straight_walks.specs.Faulty.{AreToldOf, flag_faults, flags_at, flags_by, quiet_flags}
+use Rattle.straight_walks.specs.Faulty.{AreToldOf, flag_faults, flags_at, flags_by}
 use Rattle.straight_walks.specs.Searching.{AreFlagsOf, IsReferral, IsSettingOf, outer_leaf, state_at}
 use Rattle.straight_walks.specs.declared.faulty.ReferralFlags.{ReferralFlags}
 use Rattle.straight_walks.specs.declared.name_server.Referral.TheVariants as referral
@@ -56,15 +56,15 @@ module _ (config : Config) (deps : Deps) where
       at (first ∷ rest) each zero within is = ap (λ (c : Cut). is_quiet (flags_of config deps c)) is ∙ each.0
       at (first ∷ rest) each (suc number) within is = at rest each.1 number (omega (arith, within)) is
   told_at cuts (Some told) so number cut within is =
-      let flags : get_or told number quiet_flags ≡ flags_of config deps cut =
-      ap (λ (all : List CutFlags). get_or all number quiet_flags) so ∙ at cuts number within is in
+      let flags : get_or told number (glue_alone false) ≡ flags_of config deps cut =
+      ap (λ (all : List CutFlags). get_or all number (glue_alone false)) so ∙ at cuts number within is in
       record {
         differs = ap (λ (f : CutFlags). f.differs) flags;
         no_glue = ap (λ (f : CutFlags). f.no_glue) flags;
         glue_differs = ap (λ (f : CutFlags). f.glue_differs) flags;
       }
     where
-      at : (cuts : List Cut) (number : ℕ) → number < length cuts → cut ≡ get_or cuts number cut → get_or (map (flags_of config deps) cuts) number quiet_flags ≡ flags_of config deps cut
+      at : (cuts : List Cut) (number : ℕ) → number < length cuts → cut ≡ get_or cuts number cut → get_or (map (flags_of config deps) cuts) number (glue_alone false) ≡ flags_of config deps cut
       at [] number within is = absurd (omega (arith, within))
       at (first ∷ rest) zero within is = ap (flags_of config deps) (sym is)
       at (first ∷ rest) (suc number) within is = at rest number (omega (arith, within)) is

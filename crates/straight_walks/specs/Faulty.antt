@@ -13,6 +13,7 @@ use Rattle.net_model.specs.declared.walk.Hop.TheVariants.{Refer}
 use Rattle.net_model.specs.declared.walk.Leaf.TheVariants as leaves
 use Rattle.net_model.specs.Shown.{FaultSetting, Shows}
 use Rattle.net_model.specs.Step.{Branch, Go, End}
+use Rattle.zone_lookup.specs.CutFlags.{glue_alone}
 use Rattle.zone_lookup.specs.ReferralFaults.{if_shown, referral_faults}
 use Rattle.zone_lookup.specs.Sides.{addresses_differ, zones_differ}
 use Rattle.zone_lookup.specs.Sound.{wants_glue}
@@ -34,14 +35,10 @@ flag_faults flags cut =
 abbrev pub flags_by : CutFlags → Bool → ReferralFlags
 flags_by told lame = record { lame = lame; differs = told.differs; no_glue = told.no_glue; glue_differs = told.glue_differs }
 
--- nothing is told of a referral
-abbrev pub quiet_flags : CutFlags
-quiet_flags = record { differs = false; no_glue = false; glue_differs = false; cyclic = false; no_address = false; unhosted = false }
-
 -- what is told of the referral to the name server of this number; where nothing is told of the zone cut, nothing is of it
 abbrev pub flags_at : Option (List CutFlags) → ℕ → CutFlags
-flags_at (Some told) number = get_or told number quiet_flags
-flags_at None number = quiet_flags
+flags_at (Some told) number = get_or told number (glue_alone false)
+flags_at None number = glue_alone false
 
 -- what is told of a referral is what the zones at both sides of its cut show
 pub record AreToldOf (config : Config) (cut : Cut) (flags : CutFlags) : Type 0 where

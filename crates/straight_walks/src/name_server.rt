@@ -1,8 +1,7 @@
 //! Referrals to one name server.
 
-ghost use Rattle.std.specs.Prelude.{◌≡◌, ◌&&◌, false, not, true};
+ghost use Rattle.std.specs.Prelude.{◌≡◌, true};
 ghost use Rattle.dns_data.specs.Name.{is_prefix};
-ghost use Rattle.net_model.specs.Zone.{has_address};
 ghost use Rattle.zone_lookup.specs.LentCut.{cut_of};
 ghost use Rattle.zone_tree.specs.Tree.{IsNode, name_of};
 ghost use Rattle.straight_walks.specs.Faulty.{AreToldOf};
@@ -11,7 +10,7 @@ ghost use Rattle.straight_walks.specs.Searching.{EndsOutside, IsReferral};
 use crate::asked::Asked;
 use crate::faulty::ReferralFlags;
 use dns_data::Name;
-use zone_lookup::{CutFlags, Hosts, Lead, LentCut, Walker, has_glue_below};
+use zone_lookup::{CutFlags, Hosts, Lead, LentCut, Walker, lacks_glue};
 use zone_tree::{NodeId, Tree};
 
 /// A referral to a name server, with the faults that it shows: walks end there, since it isn't configured or has no zone at
@@ -33,20 +32,8 @@ pub(crate) fn ends_outside(hosts: &Hosts<'_>, tree: &Tree<'_>, cut: NodeId, ns: 
 {
     match hosts.host(ns) {
         Some(_) => false,
-        None => is_glued(tree, cut, ns),
+        None => !lacks_glue(tree, cut, ns),
     }
-}
-
-/// Whether the name server isn't at or below the zone cut, or has glue.
-fn is_glued(tree: &Tree<'_>, cut: NodeId, ns: &Name) -> bool
-    requires node { IsNode tree.now cut }
-    requires inside { is_prefix tree.now.zone.origin (name_of tree.now cut) ≡ true }
-    ensures { result ≡ true → (is_prefix (name_of tree.now cut) ns.now && not (has_address tree.now.zone ns.now)) ≡ false }
-{
-    if !tree.name(cut).is_prefix_of(ns) {
-        return true;
-    }
-    has_glue_below(tree, cut, ns)
 }
 
 /// The referral of the query to a name server of a zone cut, of which it is told what it shows.

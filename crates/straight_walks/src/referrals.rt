@@ -102,14 +102,7 @@ fn flags_at(told: Option<&[CutFlags]>, number: usize) -> CutFlags
             return *flags;
         }
     }
-    CutFlags {
-        differs: false,
-        no_glue: false,
-        glue_differs: false,
-        cyclic: false,
-        no_address: false,
-        unhosted: false,
-    }
+    CutFlags::of_glue(false)
 }
 
 /// Puts the referral to a name server behind the others that show faults, if it shows some.

@@ -3,7 +3,7 @@ use Rattle.std.proofs.Common.{◌≡◌, Bool, true, false, not, Option, Some, N
 use Rattle.std.specs.Prelude.{◌&&◌, is_some, option_and_then}
 use Rattle.std.specs.Option.{option_map_or}
 use Rattle.dns_data.specs.Name.{is_prefix, is_among}
-use Rattle.net_model.specs.Nearest.{held_zone, is_configured, is_top, server_named, zone_with_origin}
+use Rattle.net_model.specs.Nearest.{held_zone, is_top, server_named, zone_with_origin}
 use Rattle.net_model.specs.Step.{has_glue, may_follow}
 use Rattle.net_model.specs.Zone.{has_address}
 use Rattle.net_model.specs.declared.config.Config.{Config}
@@ -12,21 +12,20 @@ use Rattle.net_model.specs.declared.config.Zone.{Zone}
 use Rattle.net_model.specs.declared.deps.Deps.{Deps}
 use Rattle.net_model.specs.declared.place.Cut.{Cut}
 use Rattle.zone_tree.specs.Tree.{ZoneTree, name_of}
-use Rattle.zone_lookup.specs.CutFlags.{flags_of, lacks_address}
+use Rattle.zone_lookup.specs.CutFlags.{flags_of, glue_alone, lacks_address}
 use Rattle.zone_lookup.specs.CutTable.{cut_to}
 use Rattle.zone_lookup.specs.Sides.{addresses_differ, glue_of_sides, sides_differ, zones_differ}
 use Rattle.zone_lookup.specs.Sound.{IsSound, depends_on_itself, wants_glue}
-use Rattle.zone_lookup.specs.declared.cut_flags.CutFlags.{CutFlags}
 
 -- where the name server holds no zone there is nothing that differs
 same_alone : (cut : Cut) (above : Option Zone) → sides_differ cut above None ≡ false
 same_alone cut None = refl
 same_alone cut (Some above) = refl
 
-glue_alone : (below : Bool) (cut : Cut) (above : Option Zone) → (below && glue_of_sides cut above None) ≡ false
-glue_alone false cut above = refl
-glue_alone true cut None = refl
-glue_alone true cut (Some above) = refl
+addresses_alone : (below : Bool) (cut : Cut) (above : Option Zone) → (below && glue_of_sides cut above None) ≡ false
+addresses_alone false cut above = refl
+addresses_alone true cut None = refl
+addresses_alone true cut (Some above) = refl
 
 none_below : (below address : Bool) → (below && not address) ≡ (below && not (below && address))
 none_below false address = refl
@@ -41,10 +40,6 @@ glue_told config tree node cut is held =
     ap (λ (zone : Option Zone). below && option_map_or (λ z. has_address z cut.ns) zone false) held in
     none_below below (has_address tree.zone cut.ns) ∙ sym (ap (λ (b : Bool). below && not b) glue) ∙ sym (ap (wants_glue config) is)
 
--- what shows no more than whether glue is missing
-abbrev pub unhosted_with : Bool → CutFlags
-unhosted_with no_glue = record { differs = false; no_glue = no_glue; glue_differs = false; cyclic = false; no_address = false; unhosted = true }
-
 module _ (config : Config) (deps : Deps) (cut : Cut) (unhosted : server_named config cut.ns ≡ None) where
   abbrev above : Option Zone
   above = held_zone config cut.server cut.zone
@@ -57,7 +52,7 @@ module _ (config : Config) (deps : Deps) (cut : Cut) (unhosted : server_named co
 
   same_addresses : addresses_differ config cut ≡ false
   same_addresses =
-      ap (λ (held : Option Zone). is_prefix cut.cut cut.ns && glue_of_sides cut above held) none_held ∙ glue_alone (is_prefix cut.cut cut.ns) cut above
+      ap (λ (held : Option Zone). is_prefix cut.cut cut.ns && glue_of_sides cut above held) none_held ∙ addresses_alone (is_prefix cut.cut cut.ns) cut above
 
   independent : depends_on_itself config deps cut ≡ false
   independent =
@@ -68,10 +63,9 @@ module _ (config : Config) (deps : Deps) (cut : Cut) (unhosted : server_named co
   unhosted_sound glued = record { same_servers = same_servers; glued = glued; same_addresses = same_addresses; independent = independent }
 
   -- it shows no more than that
-  pub unhosted_flags : (no_glue : Bool) → no_glue ≡ wants_glue config cut → unhosted_with no_glue ≡ flags_of config deps cut
+  pub unhosted_flags : (no_glue : Bool) → no_glue ≡ wants_glue config cut → glue_alone no_glue ≡ flags_of config deps cut
   unhosted_flags no_glue glued =
       let known : lacks_address config deps cut ≡ false = ap (λ (named : Option Server). is_some named && not (may_follow config cut deps.least)) unhosted in
-      let none : not (is_configured config cut.ns) ≡ true = ap (λ (named : Option Server). not (is_some named)) unhosted in
       let differ : zones_differ config cut ≡ false = same_servers in
       let glue : addresses_differ config cut ≡ false = same_addresses in
       let cyclic : depends_on_itself config deps cut ≡ false = independent in

@@ -1,5 +1,5 @@
 -- What a referral to a name server shows, whatever comes behind it and whatever is asked, as a flag for each kind.
-use Rattle.std.specs.Prelude.{Bool, ◌&&◌, ◌||◌, not, List, ◌++◌}
+use Rattle.std.specs.Prelude.{Bool, false, ◌&&◌, ◌||◌, not, List, ◌++◌}
 use Rattle.net_model.specs.declared.config.Config.{Config}
 use Rattle.net_model.specs.declared.deps.Deps.{Deps}
 use Rattle.net_model.specs.declared.fault.Fault.{Fault}
@@ -24,8 +24,11 @@ flags_of config deps cut = record {
   glue_differs = addresses_differ config cut;
   cyclic = depends_on_itself config deps cut;
   no_address = lacks_address config deps cut;
-  unhosted = not (is_configured config cut.ns);
 }
+
+-- what a referral shows of which no more is told than whether glue is missing
+abbrev pub glue_alone : Bool → CutFlags
+glue_alone missing = record { differs = false; no_glue = missing; glue_differs = false; cyclic = false; no_address = false }
 
 -- the faults of the zone cut that the flags tell
 abbrev pub faults_by : CutFlags → Cut → List Fault

@@ -3,7 +3,7 @@
 ghost use Rattle.std.specs.Prelude.{◌≡◌, ◌++◌, true, IfOk, OnOk};
 ghost use Rattle.dns_data.specs.Name.{is_prefix};
 ghost use Rattle.net_model.specs.declared.fault.Fault.{Fault as FaultValue};
-ghost use Rattle.zone_lookup.specs.CutFlags.{faults_by, flags_of, is_quiet, lacks_address};
+ghost use Rattle.zone_lookup.specs.CutFlags.{faults_by, flags_of, glue_alone, is_quiet, lacks_address};
 ghost use Rattle.zone_lookup.specs.LentCut.{cut_of};
 ghost use Rattle.zone_lookup.specs.ReferralFaults.{if_shown};
 
@@ -12,13 +12,13 @@ use crate::learnt_sets::LearntSets;
 use crate::lent_cut::LentCut;
 use crate::sides::{addresses_differ, zones_differ};
 use crate::sound::{depends_on_itself, wants_glue};
+use crate::walker::Walker;
 use dns_data::{List, NoMemory};
 use net_model::{Cut, Fault};
 use std::alloc::Global;
 
 /// What a referral to a name server shows, whatever comes behind it and whatever is asked: which of the faults of its zone
-/// cut; whether the configured name server's address isn't known while the servers of the least set are followed; and
-/// whether the name server isn't configured, which is no fault.
+/// cut; and whether the configured name server's address isn't known while the servers of the least set are followed.
 #[derive(Clone, Copy, Debug, PartialEq, Eq)]
 pub struct CutFlags {
     pub differs: bool,
@@ -26,13 +26,41 @@ pub struct CutFlags {
     pub glue_differs: bool,
     pub cyclic: bool,
     pub no_address: bool,
-    pub unhosted: bool,
 }
 
 impl CutFlags {
-    /// What a referral shows whose zone cut is at or below its zone's origin. `NoMemory` comes where there is no room for
-    /// the addresses that are compared.
+    /// What a referral shows whose zone cut is at or below its zone's origin. Of a name server that isn't configured the
+    /// glue alone is looked for. `NoMemory` comes where there is no room for the addresses that are compared.
     pub fn of(
+        alloc: Global,
+        hosts: &Hosts<'_>,
+        sets: &LearntSets,
+        cut: LentCut<'_>,
+    ) -> Result<CutFlags, NoMemory>
+        requires { is_prefix cut.zone.now cut.cut.now ≡ true }
+        ensures { IfOk result (λ flags. flags ≡ flags_of hosts.now sets.now (cut_of cut.entry)) }
+    {
+        match hosts.host(cut.ns) {
+            Some(_) => CutFlags::of_both(alloc, hosts, sets, cut),
+            None => Ok(CutFlags::of_glue(wants_glue(hosts, cut))),
+        }
+    }
+
+    /// What a referral shows of which no more is to be told than whether glue is missing.
+    pub fn of_glue(missing: bool) -> CutFlags
+        ensures { result ≡ glue_alone missing }
+    {
+        CutFlags {
+            differs: false,
+            no_glue: missing,
+            glue_differs: false,
+            cyclic: false,
+            no_address: false,
+        }
+    }
+
+    /// What a referral shows, by the zones at both sides of it and what is learnt.
+    pub(crate) fn of_both(
         alloc: Global,
         hosts: &Hosts<'_>,
         sets: &LearntSets,
@@ -48,7 +76,6 @@ impl CutFlags {
             glue_differs,
             cyclic: depends_on_itself(hosts, sets, cut),
             no_address: lacks_address(hosts, sets, cut),
-            unhosted: hosts.host(cut.ns).is_none(),
         })
     }
 
@@ -80,7 +107,7 @@ fn lacks_address(hosts: &Hosts<'_>, sets: &LearntSets, cut: LentCut<'_>) -> bool
     requires { is_prefix cut.zone.now cut.cut.now ≡ true }
     ensures { result ≡ lacks_address hosts.now sets.now (cut_of cut.entry) }
 {
-    hosts.host(cut.ns).is_some() && !hosts.is_known(cut) && !sets.has_least(cut.ns)
+    hosts.host(cut.ns).is_some() && !Walker::following_least(hosts, 0, sets).may_follow(cut)
 }
 
 /// Puts the fault of this kind at a zone cut behind the others, where it is shown.

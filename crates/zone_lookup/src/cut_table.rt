@@ -1,18 +1,17 @@
 //! What the referrals of zone cuts show, told once for each zone of each server.
 
-ghost use Rattle.std.specs.Prelude.{◌≡◌, ◌&&◌, true, not, map, Some, IfOk, OnOk};
+ghost use Rattle.std.specs.Prelude.{◌≡◌, true, map, Some, IfOk, OnOk};
 ghost use Rattle.std.specs.List.{AllByRecursion, AllZip};
 ghost use Rattle.std.specs.Option.{option_map};
 ghost use Rattle.dns_data.specs.Name.{is_prefix};
 ghost use Rattle.net_model.specs.Nearest.{held_zone};
-ghost use Rattle.net_model.specs.Zone.{has_address};
 ghost use Rattle.zone_tree.specs.Tree.{IsNode, name_of};
 ghost use Rattle.zone_lookup.specs.CutFlags.{flags_of, is_quiet};
 ghost use Rattle.zone_lookup.specs.CutTable.{AreRowsOf, IsHostRow, IsPut, IsTableOf, IsWholeTree, IsZoneRow, cut_to, referrals_at, told_at, told_in, told_of};
 ghost use Rattle.zone_lookup.specs.LentCut.{cut_of};
 
 use crate::cut_flags::CutFlags;
-use crate::follow::has_glue_below;
+use crate::follow::lacks_glue;
 use crate::hosts::{Host, Hosts, Near};
 use crate::learnt_sets::LearntSets;
 use crate::lent_cut::LentCut;
@@ -268,28 +267,9 @@ fn flags_to(
     ensures { IfOk result (λ flags. held_zone hosts.now to.entry.server.now tree.now.zone.origin ≡ Some tree.now.zone → flags ≡ flags_of hosts.now sets.now (cut_of to.entry)) }
 {
     match hosts.host(to.ns) {
-        Some(_) => CutFlags::of(alloc, hosts, sets, to),
-        None => Ok(CutFlags {
-            differs: false,
-            no_glue: lacks_glue(tree, cut, to.ns),
-            glue_differs: false,
-            cyclic: false,
-            no_address: false,
-            unhosted: true,
-        }),
+        Some(_) => CutFlags::of_both(alloc, hosts, sets, to),
+        None => Ok(CutFlags::of_glue(lacks_glue(tree, cut, to.ns))),
     }
-}
-
-/// Whether the name server of a zone cut is at or below it, and the zone holds no address of it.
-fn lacks_glue(tree: &Tree<'_>, cut: NodeId, ns: &Name) -> bool
-    requires node { IsNode tree.now cut }
-    requires inside { is_prefix tree.now.zone.origin (name_of tree.now cut) ≡ true }
-    ensures { result ≡ (is_prefix (name_of tree.now cut) ns.now && not (has_address tree.now.zone ns.now)) }
-{
-    if !tree.name(cut).is_prefix_of(ns) {
-        return false;
-    }
-    !has_glue_below(tree, cut, ns)
 }
 
 /// Puts what the referrals of a zone cut show into the row, unless all are quiet.

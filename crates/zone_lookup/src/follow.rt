@@ -1,6 +1,6 @@
 //! Which name servers may be followed.
 
-ghost use Rattle.std.specs.Prelude.{◌≡◌, ◌||◌, true};
+ghost use Rattle.std.specs.Prelude.{◌≡◌, ◌&&◌, ◌||◌, not, true};
 ghost use Rattle.dns_data.specs.Name.{is_prefix};
 ghost use Rattle.dns_data.specs.declared.rr_type.RrType.TheVariants as types;
 ghost use Rattle.net_model.specs.Learnt.{gives_address};
@@ -66,6 +66,18 @@ pub fn has_glue_below(tree: &Tree<'_>, cut: NodeId, ns: &Name) -> bool
         Some(node) => owns_address(tree, node),
         None => false,
     }
+}
+
+/// Whether the name server of a zone cut is at or below it, and the zone holds no address of it.
+pub fn lacks_glue(tree: &Tree<'_>, cut: NodeId, ns: &Name) -> bool
+    requires node { IsNode tree.now cut }
+    requires inside { is_prefix tree.now.zone.origin (name_of tree.now cut) ≡ true }
+    ensures { result ≡ (is_prefix (name_of tree.now cut) ns.now && not (has_address tree.now.zone ns.now)) }
+{
+    if !tree.name(cut).is_prefix_of(ns) {
+        return false;
+    }
+    !has_glue_below(tree, cut, ns)
 }
 
 /// Whether the name, which is at or below the origin, owns an address record.

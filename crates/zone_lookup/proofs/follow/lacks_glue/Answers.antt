@@ -4,7 +4,7 @@ use Rattle.dns_data.specs.Name.{Labels, is_prefix}
 use Rattle.net_model.specs.Zone.{has_address}
 use Rattle.zone_tree.specs.Tree.{name_of}
 use Rattle.zone_lookup.proofs.Glue.{further_below}
-use Rattle.zone_lookup.proofs.cut_table.lacks_glue.Goals as goal
+use Rattle.zone_lookup.proofs.follow.lacks_glue.Goals as goal
 
 pub returns-then-not-is_prefix_of : goal.returns-then-not-is_prefix_of
 returns-then-not-is_prefix_of c =
