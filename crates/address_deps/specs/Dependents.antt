@@ -26,12 +26,6 @@ abbrev pub told_awaits : AddressTold → List Labels
 told_awaits (Known learnt) = []
 told_awaits (ByPaths paths) = flat_map turns_await paths.four ++ flat_map turns_await paths.six
 
--- a place is listed for more names
-pub record IsListedFor (place : ℕ) (names : List Labels) (old new : map.BTreeMap Labels (List ℕ)) : Type 0 where
-  pub listed : (name : Labels) → Contains names name → Contains (places_of new name) place
-  pub stays : (name : Labels) (other : ℕ) → Contains (places_of old name) other → Contains (places_of new name) other
-  pub only : (name : Labels) (other : ℕ) → Contains (places_of new name) other → Contains (places_of old name) other ⊎ (other ≡ place)
-
 -- of the servers before the bound each is listed for the names of the name servers for whose addresses it waits
 pub record AreDependents (told : List AddressTold) (bound : ℕ) (places : map.BTreeMap Labels (List ℕ)) : Type 0 where
   pub listed : (place : ℕ) (one : AddressTold) → place < bound → slice_get told place ≡ Some one

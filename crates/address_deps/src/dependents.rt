@@ -2,14 +2,15 @@
 
 ghost use Rattle.std.specs.Prelude.{◌≡◌, ◌++◌, ◌∷◌, [], true, false, Contains, IfOk, OnOk, length, map};
 ghost use Rattle.std.specs.List.{flat_map};
-ghost use Rattle.dns_data.specs.Name.{Labels, name_eq};
 ghost use Rattle.dns_data.specs.Listed.{places_of};
-ghost use Rattle.address_deps.specs.Dependents.{AreDependents, IsListedFor, told_awaits, turn_awaits, turns_await};
+ghost use Rattle.zone_lookup.specs.Listed.{IsListedFor};
+ghost use Rattle.address_deps.specs.Dependents.{AreDependents, told_awaits, turn_awaits, turns_await};
 
 use crate::told::{AddressTold, Turn};
 use dns_data::{List, Name, NoMemory};
 use std::alloc::Global;
 use std::collections::BTreeMap;
+use zone_lookup::{list_place, listed_for};
 
 /// For each name server the places of the servers that wait for its address: a path of their names goes on while it is
 /// followed.
@@ -38,10 +39,7 @@ impl Dependents {
     pub(crate) fn on(&self, name: &Name) -> &[usize]
         ensures { result.now ≡ places_of self.now.places name.now }
     {
-        match self.places.get(name) {
-            Some(places) => places.items(),
-            None => &[],
-        }
+        listed_for(&self.places, name)
     }
 
     /// Lists a place for each of the names.
@@ -61,21 +59,7 @@ impl Dependents {
         if is_last(self.on(name), place) {
             return Ok(());
         }
-        let mut listed = self.take(alloc, name);
-        listed.push(place)?;
-        self.places.insert(name.copy(alloc)?, listed)?;
-        Ok(())
-    }
-
-    /// Takes the places of the name out.
-    fn take(&mut self, alloc: Global, name: &Name) -> List<usize>
-        ensures taken { result ≡ places_of self.old.places name.now }
-        ensures others { (other : Labels) → name_eq name.now other ≡ false → places_of self.new.places other ≡ places_of self.old.places other }
-    {
-        match self.places.remove(name) {
-            Some(listed) => listed,
-            None => List::new(alloc),
-        }
+        list_place(alloc, name, place, &mut self.places)
     }
 }
 

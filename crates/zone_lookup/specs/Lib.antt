@@ -1,3 +1,4 @@
+pub use Rattle.dns_data.specs.Listed
 pub use Rattle.net_model.specs.Learnt
 pub use Rattle.net_model.specs.Lookup
 pub use Rattle.net_model.specs.Nearest
@@ -12,6 +13,7 @@ pub mod Hosts
 pub mod Leads
 pub mod LearntSets
 pub mod LentCut
+pub mod Listed
 pub mod Named
 pub mod ReferralFaults
 pub mod Reply

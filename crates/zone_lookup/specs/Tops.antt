@@ -1,6 +1,6 @@
 -- The top servers that hold a zone for a name. At the others a walk of the name ends at once. Public clauses cite
 -- `tops_holding` and `StandsForTops` alone.
-use Rattle.std.specs.Prelude.{◌≡◌, ◌↔◌, ◌⊎◌, ◌<◌, ℕ, true, List, [], is_some, Option, Some, Contains, slice_get, take}
+use Rattle.std.specs.Prelude.{◌≡◌, ◌↔◌, ◌<◌, ℕ, true, List, [], is_some, Option, Some, Contains, slice_get, take}
 use Rattle.std.specs.BTreeMap as map
 use Rattle.std.specs.List.{filter}
 use Rattle.dns_data.specs.Listed.{places_of}
@@ -41,11 +41,6 @@ HoldsThese config server origins = (origin : Labels) → (is_some (held_zone con
 -- the top server at the place holds a zone with this origin
 abbrev pub HoldsAt : Config → Labels → ℕ → Type 0
 HoldsAt config origin place = (top : Labels) × (slice_get config.tops place ≡ Some top) × (is_some (held_zone config top origin) ≡ true)
-
--- the lists are as before, but that the place is listed for these names too
-abbrev pub IsListedFor : ℕ → List Labels → map.BTreeMap Labels (List ℕ) → map.BTreeMap Labels (List ℕ) → Type 0
-IsListedFor place names old new =
-    (name : Labels) (other : ℕ) → Contains (places_of new name) other ↔ (Contains (places_of old name) other ⊎ ((other ≡ place) × Contains names name))
 
 -- for an origin the places are listed of the top servers that hold a zone with it, and no others
 abbrev pub ListsTops : Config → map.BTreeMap Labels (List ℕ) → Type 0

@@ -2,12 +2,13 @@
 
 ghost use Rattle.std.specs.Prelude.{◌≡◌, ◌∷◌, ◌++◌, ◌+◌, ◌⊎◌, ◌↔◌, [], ℕ, false, true, length, map, slice_get, Contains, IfOk, OnOk};
 ghost use Rattle.std.specs.List.{filter_map};
-ghost use Rattle.dns_data.specs.Listed.{places_of};
-ghost use Rattle.dns_data.specs.Name.{Labels, name_eq};
+ghost use Rattle.dns_data.specs.Name.{Labels};
 ghost use Rattle.net_model.specs.Nearest.{nearest_of};
-ghost use Rattle.zone_lookup.specs.Tops.{HasLike, HoldsThese, IsListedAbove, IsListedFor, ListsTops, StandsForTops, nearest_among, tops_holding, with_tops};
+ghost use Rattle.zone_lookup.specs.Tops.{HasLike, HoldsThese, IsListedAbove, ListsTops, StandsForTops, nearest_among, tops_holding, with_tops};
+ghost use Rattle.zone_lookup.specs.Listed.{IsListedFor};
 
 use crate::hosts::Hosts;
+use crate::listed::{list_place, listed_for};
 use crate::same_zones::are_same;
 use dns_data::{List, Name, NoMemory};
 use net_model::{Config, Zone};
@@ -113,16 +114,6 @@ fn places_above(
     Ok(found)
 }
 
-/// The places that are listed for the name.
-fn listed_for<'p>(places: &'p BTreeMap<Name, List<usize>>, name: &Name) -> &'p [usize]
-    ensures { result.now ≡ places_of places.now name.now }
-{
-    match places.get(name) {
-        Some(listed) => listed.items(),
-        None => &[],
-    }
-}
-
 /// The zones of the server of this name, or none where it isn't configured.
 fn zones_of<'a>(hosts: &Hosts<'a>, name: &Name) -> &'a [Zone]
     ensures origins { HoldsThese hosts.now name.now (map (λ zone. zone.origin) result.now) }
@@ -189,32 +180,6 @@ fn list_zones(
         list_place(alloc, &zone.origin, place, places)?;
     }
     Ok(())
-}
-
-/// Lists a place for the name.
-fn list_place(
-    alloc: Global,
-    name: &Name,
-    place: usize,
-    places: &mut BTreeMap<Name, List<usize>>,
-) -> Result<(), NoMemory>
-    ensures { OnOk result (IsListedFor place (name.now ∷ []) places.old places.new) }
-{
-    let mut listed = take_listed(alloc, name, places);
-    listed.push(place)?;
-    places.insert(name.copy(alloc)?, listed)?;
-    Ok(())
-}
-
-/// Takes the places that are listed for the name out.
-fn take_listed(alloc: Global, name: &Name, places: &mut BTreeMap<Name, List<usize>>) -> List<usize>
-    ensures taken { result ≡ places_of places.old name.now }
-    ensures others { (other : Labels) → name_eq name.now other ≡ false → places_of places.new other ≡ places_of places.old other }
-{
-    match places.remove(name) {
-        Some(listed) => listed,
-        None => List::new(alloc),
-    }
 }
 
 /// Puts places into a set.

@@ -2,7 +2,7 @@ use Rattle.std.proofs.Common.{List, ◌≡◌, ◌∷◌, ◌++◌, [], ℕ, Som
 use Rattle.dns_data.specs.Name.{Labels, name_eq}
 use Rattle.dns_data.specs.Listed.{places_of}
 use Rattle.zone_lookup.proofs.TopsHolding.{listed_by, listed_one}
-use Rattle.zone_lookup.proofs.tops.list_place.Goals as goal
+use Rattle.zone_lookup.proofs.listed.list_place.Goals as goal
 
 pub returns : goal.returns
 returns c =

@@ -1,7 +1,7 @@
 use Rattle.std.proofs.Common.{Bool, [], None, cond, ap, ◌∙◌}
 use Rattle.dns_data.specs.Listed.{places_of}
 use Rattle.zone_lookup.proofs.TopsHolding.{listed_by}
-use Rattle.zone_lookup.proofs.tops.take_listed.Goals as goal
+use Rattle.zone_lookup.proofs.listed.take_listed.Goals as goal
 
 pub returns-in-Some-clause-others : goal.returns-in-Some-clause-others
 returns-in-Some-clause-others c = λ other differs.

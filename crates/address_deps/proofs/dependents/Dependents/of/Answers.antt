@@ -2,12 +2,14 @@ use Rattle.std.proofs.Common.{◌≡◌, ℕ, List, length, ap, sym, ◌∙◌, 
 use Rattle.std.proofs.lemmas.Option.{slice_get-get_or}
 use Rattle.dns_data.specs.Name.{Labels}
 use Rattle.address_deps.specs.declared.told.AddressTold.{AddressTold}
-use Rattle.address_deps.specs.Dependents.{AreDependents, IsListedFor}
-use Rattle.address_deps.proofs.Listing.{more_dependents, borrowed_names, no_dependents, none_in_empty}
+use Rattle.zone_lookup.specs.Listed.{IsListedFor}
+use Rattle.address_deps.specs.Dependents.{AreDependents}
+use Rattle.zone_lookup.proofs.TopsHolding.{none_listed}
+use Rattle.address_deps.proofs.Listing.{more_dependents, borrowed_names, no_dependents}
 use Rattle.address_deps.proofs.dependents.Dependents.of.Goals as goal
 
 pub loop-place-init : goal.loop-place-init
-loop-place-init c = no_dependents c.args.told.now c.new.result (none_in_empty c.new.result c.new.ensures.empty)
+loop-place-init c = no_dependents c.args.told.now c.new.result (none_listed c.new.result c.new.ensures.empty)
 
 pub loop-place-preserved : goal.loop-place-preserved
 loop-place-preserved c =

@@ -2,8 +2,9 @@ use Rattle.std.proofs.Common.{List, ◌∷◌, [], ◌++◌, take, ap, sym, ◌�
 use Rattle.std.proofs.lemmas.List.{map-append, take_all, take_more}
 use denote.Bor.{Bor}
 use Rattle.dns_data.specs.Name.{Labels}
-use Rattle.address_deps.specs.Dependents.{IsListedFor}
-use Rattle.address_deps.proofs.Listing.{listed_more, listed_none, borrowed_names}
+use Rattle.zone_lookup.specs.Listed.{IsListedFor}
+use Rattle.zone_lookup.proofs.TopsHolding.{listed_more, listed_none}
+use Rattle.address_deps.proofs.Listing.{borrowed_names}
 use Rattle.address_deps.proofs.dependents.Dependents.put_all.Goals as goal
 
 pub loop-name-init : goal.loop-name-init
