@@ -1,5 +1,5 @@
 -- The states of the search for the least and for the greatest set.
-use Rattle.std.proofs.Common.{◌≡◌, ℕ, suc, ◌+◌, ◌<◌, ◌≤◌, Bool, true, false, not, ◌||◌, ◌&&◌, List, [], ◌∷◌, ◌++◌, map, length, filter, Contains, refl, sym, ap, ◌∙◌, subst, inl, inr, arith}
+use Rattle.std.proofs.Common.{◌≡◌, ℕ, ◌<◌, ◌≤◌, Bool, true, false, not, ◌||◌, ◌&&◌, List, [], ◌∷◌, ◌++◌, map, length, filter, Contains, refl, sym, ap, ◌∙◌, subst, inl, inr, arith}
 use Rattle.std.specs.Prelude.{◌⊎◌}
 use Rattle.std.specs.Cmp.Lexicographic.{nat_list_eq_equiv, lists_equiv}
 use Rattle.std.specs.List.{sum_by}
@@ -22,7 +22,7 @@ use Rattle.address_deps.specs.Giving.{unset}
 use Rattle.address_deps.specs.Told.{AreServers, AreTold}
 use Rattle.address_deps.specs.Sets.{absent, present, IsGrowing, NoneMoreLearnt, IsShrinking, AreLearnt, NoneMoreLearntAt, IsLearntAt}
 use Rattle.address_deps.proofs.Waking.{gone_fewer, gone_there, put_more, put_there}
-use Rattle.address_deps.proofs.TwoSets.{none_below, one_below, is_least, all_above, one_above, is_greatest}
+use Rattle.address_deps.proofs.SteadySets.{one_below, is_least, all_above, one_above, is_greatest}
 
 -- ---- counting
 
@@ -64,15 +64,6 @@ module _ (few more : Labels → Bool) (grows : (name : Labels) → few name ≡ 
             omega (arith, one, rest, sum_by-cons (λ (s : Server). unset (more s.name)) server servers, sum_by-cons (λ (s : Server). unset (few s.name)) server servers))
       ]
 
-unset_at_most : (servers : List Server) (test : Labels → Bool) → sum_by (λ (s : Server). unset (test s.name)) servers ≤ length servers
-unset_at_most [] test = omega arith
-unset_at_most (server ∷ servers) test =
-    subst (λ (n : ℕ). n ≤ suc (length servers)) (sym (sum_by-cons (λ (s : Server). unset (test s.name)) server servers)) (by (test server.name) (unset_at_most servers test))
-  where
-    by : (b : Bool) → sum_by (λ (s : Server). unset (test s.name)) servers ≤ length servers → unset b + sum_by (λ (s : Server). unset (test s.name)) servers ≤ suc (length servers)
-    by true rest = omega arith
-    by false rest = omega arith
-
 -- ---- the search for the least set
 
 module _ (config : Config) (told : List AddressTold) where
@@ -81,7 +72,7 @@ module _ (config : Config) (told : List AddressTold) where
   grows_from_none =
       record {
         servers = λ name h. cc;
-        below = λ rewrites are. (0, (let few = unset_at_most config.servers (is_among []) in omega (arith, few)), none_below config rewrites);
+        below = λ rewrites are learnt least name has. absurd (none_in_nil name has);
       }
 
   module _ (learnt more : List Labels) (name : Labels) (among : Contains (server_names config) name) (missing : is_among learnt name ≡ false)
@@ -101,25 +92,20 @@ module _ (config : Config) (told : List AddressTold) where
                 | inr old ↦ growing.servers other old
               ];
           below = λ rewrites are.
-              let before = growing.below rewrites are in (
-                suc before.0,
-                omega (arith, before.1, grown_less),
-                one_below config rewrites before.0 learnt more name before.2 among (learns rewrites are)
-                    (λ other has. elim (or_cases (name_eq name other) (is_among learnt other) (sym (put other) ∙ is_listed more other has)) [
-                      | inl same ↦ inr ((name_eq_decides name other).0 same)
-                      | inr old ↦ inl (from_listed learnt other old)
-                    ]),
-              );
+              one_below config rewrites learnt more name (growing.below rewrites are) (among, learns rewrites are)
+              (λ other has. elim (or_cases (name_eq name other) (is_among learnt other) (sym (put other) ∙ is_listed more other has)) [
+                | inl same ↦ inr ((name_eq_decides name other).0 same)
+                | inr old ↦ inl (from_listed learnt other old)
+              ]);
         }
 
   -- where no server more can be learnt, those that the search added are the least set, in the order of the servers
   pub least_told : (learnt : List Labels) → IsGrowing config told learnt → NoneMoreLearnt config told learnt → (rewrites : ℕ) → AreTold config rewrites told
       → IsLeast config rewrites (filter (is_among learnt) (server_names config))
   least_told learnt growing closed rewrites are =
-      let below = growing.below rewrites are in
-      is_least config rewrites below.0 learnt (is_among learnt) (omega (arith, below.1)) below.2
+      is_least config rewrites learnt (is_among learnt) (growing.below rewrites are)
       (λ name among. (from_listed learnt name, is_listed learnt name))
-      (λ name among learns. from_listed learnt name (closed rewrites are name among learns))
+      (λ name (among, learns). from_listed learnt name (closed rewrites are name among learns))
 
 -- ---- the search for the greatest set
 
@@ -130,11 +116,7 @@ module _ (config : Config) (told : List AddressTold) where
   shrinks_from_all known servers all =
       record {
         servers = servers;
-        above = λ rewrites are. (
-          0,
-          (let few = unset_at_most config.servers (λ (n : Labels). not (is_among known n)) in omega (arith, few)),
-          all_above config rewrites known (λ name among. from_listed known name (all name among)),
-        );
+        above = λ rewrites are. all_above config rewrites known (λ name among. from_listed known name (all name among));
       }
 
   module _ (known fewer : List Labels) (name : Labels) (among : Contains (server_names config) name) (there : is_among known name ≡ true)
@@ -157,12 +139,8 @@ module _ (config : Config) (told : List AddressTold) where
         record {
           servers = λ other h. shrinking.servers other (gone_fewer name known fewer taken other h);
           above = λ rewrites are.
-              let before = shrinking.above rewrites are in (
-                suc before.0,
-                omega (arith, before.1, shrunk_less),
-                one_above config rewrites before.0 known fewer name before.2 (fails rewrites are)
-                    (λ other has. by other (name_eq name other) refl (is_listed known other has)),
-              );
+              one_above config rewrites known fewer name (shrinking.above rewrites are) (fails rewrites are)
+              (λ other has. by other (name_eq name other) refl (is_listed known other has));
         }
       where
         by : (other : Labels) (b : Bool) → name_eq name other ≡ b → is_among known other ≡ true → Contains fewer other ⊎ (name ≡ other)
@@ -173,8 +151,7 @@ module _ (config : Config) (told : List AddressTold) where
   pub greatest_told : (known : List Labels) → IsShrinking config told known → AreLearnt config told known → (rewrites : ℕ) → AreTold config rewrites told
       → IsGreatest config rewrites (filter (is_among known) (server_names config))
   greatest_told known shrinking each rewrites are =
-      let above = shrinking.above rewrites are in
-      is_greatest config rewrites above.0 known (is_among known) (omega (arith, above.1)) above.2
+      is_greatest config rewrites known (is_among known) (shrinking.above rewrites are)
       (λ name among. (from_listed known name, is_listed known name))
       (λ name has.
       let among = from_listed (server_names config) name (shrinking.servers name (is_listed known name has)) in

@@ -9,6 +9,6 @@ pub mod MoreFollowed
 pub mod Moves
 pub mod Rounds
 pub mod ServerSets
+pub mod SteadySets
 pub mod TurnsTaken
-pub mod TwoSets
 pub mod Waking

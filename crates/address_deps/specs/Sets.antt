@@ -1,10 +1,10 @@
 -- The searches for the two sets of learnt addresses. The contracts of inner calls alone cite it.
-use Rattle.std.specs.Prelude.{◌≡◌, ℕ, ◌+◌, ◌≤◌, true, not, List, [], length, Some, Contains, slice_get}
+use Rattle.std.specs.Prelude.{◌≡◌, ℕ, true, not, List, Some, Contains, slice_get}
 use Rattle.std.specs.List.{sum_by}
 use Rattle.dns_data.specs.Name.{Labels, is_among}
 use Rattle.net_model.specs.declared.config.Config.{Config}
 use Rattle.net_model.specs.declared.config.Server.{Server}
-use Rattle.net_model.specs.Learnt.{AfterRounds, Learns}
+use Rattle.net_model.specs.Learnt.{IsGreatest, IsLeast, Learns}
 use Rattle.net_model.specs.Nearest.{server_names}
 use Rattle.net_model.specs.Step.{following}
 use Rattle.address_deps.specs.Giving.{unset}
@@ -23,20 +23,18 @@ present servers names = sum_by (λ server. unset (not (is_among names server.nam
 abbrev pub Within : List Labels → List Labels → Type 0
 Within few more = (name : Labels) → Contains few name → Contains more name
 
--- the names are learnt after so many rounds begun with none
-abbrev pub AreBelow : Config → ℕ → ℕ → List Labels → Type 0
-AreBelow config rewrites rounds followed = (learnt : List Labels) → AfterRounds config rewrites rounds [] learnt → Within followed learnt
+-- the names are in the least set
+abbrev pub AreBelow : Config → ℕ → List Labels → Type 0
+AreBelow config rewrites followed = (learnt : List Labels) → IsLeast config rewrites learnt → Within followed learnt
 
--- what is learnt after so many rounds begun with all servers is among the names
-abbrev pub AreAbove : Config → ℕ → ℕ → List Labels → Type 0
-AreAbove config rewrites rounds followed =
-    (learnt : List Labels) → AfterRounds config rewrites rounds (server_names config) learnt → Within learnt followed
+-- the greatest set is among the names
+abbrev pub AreAbove : Config → ℕ → List Labels → Type 0
+AreAbove config rewrites followed = (learnt : List Labels) → IsGreatest config rewrites learnt → Within learnt followed
 
--- The search for the least set: each name is learnt after as many rounds as servers were added.
+-- The search for the least set: each name that was added is in it.
 pub record IsGrowing (config : Config) (told : List AddressTold) (learnt : List Labels) : Type 0 where
   pub servers : AreServers config learnt
-  pub below : (rewrites : ℕ) → AreTold config rewrites told
-      → (rounds : ℕ) × (rounds + absent config.servers learnt ≤ length config.servers) × AreBelow config rewrites rounds learnt
+  pub below : (rewrites : ℕ) → AreTold config rewrites told → AreBelow config rewrites learnt
 
 -- no server more can be learnt
 abbrev pub NoneMoreLearnt : Config → List AddressTold → List Labels → Type 0
@@ -44,11 +42,10 @@ NoneMoreLearnt config told learnt =
     (rewrites : ℕ) → AreTold config rewrites told → (name : Labels) → Contains (server_names config) name
     → Learns (following config rewrites learnt) name → is_among learnt name ≡ true
 
--- The search for the greatest set: after as many rounds as servers were taken away what is learnt is among the names.
+-- The search for the greatest set: it is among the names that are left.
 pub record IsShrinking (config : Config) (told : List AddressTold) (known : List Labels) : Type 0 where
   pub servers : AreServers config known
-  pub above : (rewrites : ℕ) → AreTold config rewrites told
-      → (rounds : ℕ) × (rounds + present config.servers known ≤ length config.servers) × AreAbove config rewrites rounds known
+  pub above : (rewrites : ℕ) → AreTold config rewrites told → AreAbove config rewrites known
 
 -- the address of each server of the list can be learnt while the servers of the list are followed
 abbrev pub AreLearnt : Config → List AddressTold → List Labels → Type 0

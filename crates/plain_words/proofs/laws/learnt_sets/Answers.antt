@@ -1,4 +1,5 @@
-use Rattle.plain_words.proofs.SteadySets.{round_is, in_each_steady, in_some_steady, least_steady, greatest_steady}
+use Rattle.address_deps.proofs.SteadySets.{round_is, least_steady, greatest_steady}
+use Rattle.plain_words.proofs.SteadySets.{in_each_steady, in_some_steady}
 use Rattle.plain_words.proofs.laws.learnt_sets.Goals as goal
 
 pub returns : goal.returns
