@@ -21,7 +21,7 @@ use Rattle.net_model.proofs.AllWalks.{Numbered, all_along, all_along_are, none_m
 use Rattle.net_model.proofs.RoundsExist.{query_settles}
 use Rattle.query_classes.proofs.Decided.{Decided}
 use Rattle.query_verdicts.proofs.FirstWalksShow.{AreFirstWalks}
-use Rattle.outcome_laws.proofs.TakesDecided.{walks_take}
+use Rattle.query_verdicts.proofs.ShowsDecided.{walks_take}
 
 module _ (setting : Setting) (query : Labels) (rtype : RrType) (fault : Fault) where
   -- all walks of the query, with their numbers

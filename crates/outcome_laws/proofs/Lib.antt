@@ -7,7 +7,6 @@ mod RecheckExists
 mod ReportExists
 mod RisingDiffer
 mod SamenessExists
-mod TakesDecided
 mod ThreeParts
 mod TreeListed
 mod WalksCounted

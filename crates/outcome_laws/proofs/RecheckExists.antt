@@ -1,7 +1,7 @@
 -- What `recheck` answers there is: whether a value is a right entry is decided, since its query is named by its text, and
 -- the query's walks and what they may show are lists.
-use Rattle.std.proofs.Common.{◌≡◌, ◌≢◌, ◌∙◌, ◌⊎◌, ℕ, suc, Bool, false, List, [], ◌∷◌, ◌++◌, map, flat_map, length, Contains, Option, Some, None, refl, sym, ap, subst, inl, inr, arith}
-use Rattle.std.specs.Prelude.{Result, Ok, Err, codes, slice_get}
+use Rattle.std.proofs.Common.{◌≡◌, ◌≢◌, ◌∙◌, ◌⊎◌, ℕ, suc, List, [], ◌∷◌, ◌++◌, map, flat_map, length, Contains, Option, Some, None, refl, sym, ap, subst, inl, inr, arith}
+use Rattle.std.specs.Prelude.{Result, Ok, Err, codes}
 use Rattle.std.specs.List.{AllByRecursion}
 use Rattle.std.proofs.lemmas.List.Elements.{Contains-append_left, Contains-append_right, Contains-append_cases}
 use Rattle.dns_data.specs.Name.{Labels, IsName}
@@ -11,48 +11,45 @@ use Rattle.dns_data.specs.declared.fault.NameFault.{NameFault}
 use Rattle.dns_data.specs.declared.rr_type.RrType.{RrType}
 use Rattle.dns_data.proofs.Membership.{map_has, from_map, flat_map_has, from_flat_map}
 use Rattle.dns_data.proofs.Names.{is_name, is_name_tells, is_name_told}
-use Rattle.graph_form.specs.Report.{repeats}
 use Rattle.graph_form.specs.Trails.{WalksTake}
-use Rattle.graph_form.specs.declared.report.ReportEntry.{ReportEntry}
 use Rattle.graph_form.proofs.Reached.{every_type}
 use Rattle.graph_form.proofs.Taking.{taken, zones, shown}
 use Rattle.groot_run.specs.Outcome.{IsRechecked, answered_to}
 use Rattle.net_model.specs.declared.config.Config.{Config}
 use Rattle.net_model.specs.declared.fault.Fault.{Fault}
 use Rattle.net_model.specs.declared.walk.Walk.{Walk}
-use Rattle.net_model.specs.Learnt.{IsInForce, InLeast, InGreatest}
+use Rattle.net_model.specs.Learnt.{IsInForce}
 use Rattle.net_model.specs.Nearest.{server_names}
 use Rattle.net_model.specs.Reading.{ground_of}
 use Rattle.net_model.specs.Shown.{Shows, ShowsBy, with_sets}
 use Rattle.net_model.specs.Step.{Setting, following}
 use Rattle.net_model.specs.Walk.{IsWalk}
-use Rattle.net_model.proofs.InForce.{some_in_force, one_in_force}
-use Rattle.net_model.proofs.LearntSets.{in_least, in_greatest}
-use Rattle.net_model.proofs.RoundsExist.{rounds_exist}
-use Rattle.plain_resolver.specs.Passed.{HasMoreWalks, most_walks_followed}
+use Rattle.net_model.proofs.InForce.{some_in_force}
+use Rattle.plain_resolver.specs.Passed.{most_walks_followed}
 use Rattle.plain_resolver.proofs.FirstPassed.{none_is_first}
 use Rattle.query_classes.specs.Members.{IsInOneClass}
-use Rattle.query_classes.proofs.Decided.{Decided, by_test, turned, both, either, any_of, among, same_name}
+use Rattle.query_classes.proofs.Decided.{Decided, by_test, turned, both, either, any_of, among}
 use Rattle.query_verdicts.proofs.Candidates.{candidates, candidate_of_one, candidate_of_two}
 use Rattle.query_verdicts.proofs.CoveringGrounds.{in_own_class}
 use Rattle.query_verdicts.proofs.Decided.{same_list, same_number, same_option}
-use Rattle.query_verdicts.proofs.FaultsExist.{HasWalks, walks_exist}
-use Rattle.query_verdicts.proofs.ShowsDecided.{shows_decided}
+use Rattle.query_verdicts.proofs.FaultsExist.{HasWalks, greatest_decided, least_decided, walks_exist}
+use Rattle.query_verdicts.proofs.ShowsDecided.{shows_decided, walks_take}
 use Rattle.report_check.specs.Checked.{PassesWalks, IsConfirmed, IsWrong, IsFirst, LearningPasses, RoundsPass, IsChecked}
 use Rattle.report_check.specs.ReportIn.{StatedReport, report_in}
+use Rattle.report_check.specs.Entries.{ByWalks, entry_with, first_repeats}
 use Rattle.report_check.specs.Right.{IsRight, NamesQuery}
 use Rattle.report_check.specs.declared.answer.Checked.{Checked}
 use Rattle.report_check.specs.declared.answer.Checked.TheVariants as checks
 use Rattle.report_check.specs.declared.answer.CheckFault.{CheckFault}
 use Rattle.report_check.specs.declared.answer.CheckFault.TheVariants as check_faults
-use Rattle.report_check.proofs.NamedQueries.{named_by, not_named, one_query, entry_names}
+use Rattle.report_check.proofs.NamedQueries.{named_by, not_named, entry_names}
+use Rattle.report_check.proofs.RightByWalks.{right_told, walks_few}
 use Rattle.report_json.specs.Json.{name_value}
 use Rattle.report_json.specs.Report.{entry_value}
 use Rattle.run_endings.specs.declared.ending.Ending.{Ending}
 use Rattle.serde_json.specs.Data.{Data, null, boolean, number, string, array, object}
 use Rattle.serde_json.specs.Find.{get}
 use Rattle.outcome_laws.proofs.DataDecided.{same_value}
-use Rattle.outcome_laws.proofs.TakesDecided.{walks_take}
 use Rattle.outcome_laws.proofs.WalksCounted.{more_walks, first_in_rounds}
 
 -- ---- the query that a value names
@@ -95,26 +92,6 @@ names_decided value =
     (any_of (λ rtype. get (codes "type") value ≡ Some (string (word_of rtype)))
     (λ rtype. same_option same_value (get (codes "type") value) (Some (string (word_of rtype)))) types))
 
--- whether the first of some walks comes back
-abbrev first_repeats : List Walk → Bool
-first_repeats [] = false
-first_repeats (walk ∷ walks) = repeats walk.states
-
-first_repeats_is : (walks : List Walk) (first : Walk) → slice_get walks 0 ≡ Some first → first_repeats walks ≡ repeats first.states
-first_repeats_is [] first is = cc
-first_repeats_is (walk ∷ walks) first is = let same : walk ≡ first = cc in ap (λ (w : Walk). repeats w.states) same
-
--- whether a name is in the least set, or in the greatest, is decided
-least_decided : (config : Config) (rewrites : ℕ) (name : Labels) → Decided (InLeast config rewrites name)
-least_decided config rewrites name =
-    let (learnt, is) = rounds_exist config rewrites (length config.servers) [] in
-    turned (in_least config rewrites learnt is name).1 (in_least config rewrites learnt is name).0 (among same_name learnt name)
-
-greatest_decided : (config : Config) (rewrites : ℕ) (name : Labels) → Decided (InGreatest config rewrites name)
-greatest_decided config rewrites name =
-    let (learnt, is) = rounds_exist config rewrites (length config.servers) (server_names config) in
-    turned (in_greatest config rewrites learnt is name).1 (in_greatest config rewrites learnt is name).0 (among same_name learnt name)
-
 module _ (config : Config) (rewrites : ℕ) (value : Data) where
   -- whether its query has too many walks
   passes_walks : Decided (PassesWalks config rewrites value)
@@ -123,30 +100,16 @@ module _ (config : Config) (rewrites : ℕ) (value : Data) where
         → Decided (PassesWalks config rewrites value)
     by (inr none) followed in_force = inr (λ passes. none (passes.query, (passes.rtype, passes.names)))
     by (inl (query, (rtype, names))) followed in_force =
-        turned
-        (λ more. record { query = query; rtype = rtype; names = names; followed = followed; in_force = in_force; more = more })
-        (λ passes.
-        let (same, type_is) = one_query value passes.query query passes.rtype rtype passes.names names in
-        let sets : passes.followed ≡ followed = one_in_force config rewrites passes.followed followed passes.in_force in_force in
-        subst (λ (f : List Labels). HasMoreWalks (following config rewrites f) query rtype most_walks_followed) sets
-        (subst (λ (t : RrType). HasMoreWalks (following config rewrites passes.followed) query t most_walks_followed) type_is
-        (subst (λ (n : Labels). HasMoreWalks (following config rewrites passes.followed) n passes.rtype most_walks_followed) same passes.more)))
-        (more_walks (following config rewrites followed) query rtype most_walks_followed)
+        elim (more_walks (following config rewrites followed) query rtype most_walks_followed) [
+          | inl more ↦ inl (record { query = query; rtype = rtype; names = names; followed = followed; in_force = in_force; more = more })
+          | inr few ↦ inr (walks_few (following config rewrites followed) in_force value query rtype names few)
+        ]
 
   -- ---- a right entry
 
   module _ (followed : List Labels) where
     abbrev setting : Setting
     setting = following config rewrites followed
-
-    abbrev made : Labels → RrType → List Walk → Fault → ReportEntry
-    made query rtype walks fault =
-        record { seen = record { fault = fault; rtype = rtype }; query = query; repeats = first_repeats walks; walks = walks }
-
-    -- the value is that of the entry of a query with these walks, which show the fault
-    record Fits (query : Labels) (rtype : RrType) (walks : List Walk) (fault : Fault) : Type 0 where
-      by : ShowsBy (with_sets setting) query rtype fault walks
-      is : value ≡ entry_value (made query rtype walks fault)
 
     module _ (query : Labels) (of : IsInOneClass (ground_of config) query) (rtype : RrType) where
       every : (walks : List Walk) × HasWalks setting query rtype walks
@@ -199,67 +162,47 @@ module _ (config : Config) (rewrites : ℕ) (value : Data) where
 
       -- what is decided of a choice and a candidate
       abbrev Fitting : List Walk → Fault → Type 0
-      Fitting walks fault = Shows (with_sets setting) query rtype fault × (WalksTake walks fault × (value ≡ entry_value (made query rtype walks fault)))
+      Fitting walks fault =
+          Shows (with_sets setting) query rtype fault
+          × (WalksTake walks fault × (value ≡ entry_value (entry_with query rtype (first_repeats walks) walks fault)))
 
-      -- whether some walks of the query fit the value
-      fits_decided : Decided ((walks : List Walk) × ((fault : Fault) × Fits query rtype walks fault))
-      fits_decided =
+      -- whether walks of the query show the fault of the value's entry
+      shown_decided : Decided (ByWalks setting query rtype value)
+      shown_decided =
           turned
-          (λ (walks, has, (fault, among, (shows, (take, is)))). (
-            walks,
+          (λ (walks, has, (fault, among, (shows, (take, is)))). record {
+            walks = walks;
+            are_walks = choice_walks walks has;
+            shown = record {
+              fault = fault;
+              may = shows.may;
+              show = shown (with_sets setting) walks fault take (zones (with_sets setting) shows.walks fault shows.show);
+              is = is;
+            };
+          })
+          (λ fits.
+          let by : ShowsBy (with_sets setting) query rtype fits.shown.fault fits.walks =
+          record { may = fits.shown.may; are_walks = fits.are_walks; show = fits.shown.show } in
+          let take : WalksTake fits.walks fits.shown.fault = taken (with_sets setting) fits.walks fits.shown.fault fits.shown.show in (
+            fits.walks,
+            is_choice fits.walks fits.shown.fault fits.are_walks take,
             (
-              fault,
-              record {
-                by = record {
-                  may = shows.may;
-                  are_walks = choice_walks walks has;
-                  show = shown (with_sets setting) walks fault take (zones (with_sets setting) shows.walks fault shows.show);
-                };
-                is = is;
-              },
+              fits.shown.fault,
+              is_candidate fits.walks fits.shown.fault by,
+              (record { walks = fits.walks; by = by }, (take, fits.shown.is)),
             ),
-          ))
-          (λ (walks, (fault, fits)).
-          let take : WalksTake walks fault = taken (with_sets setting) walks fault fits.by.show in (
-            walks,
-            is_choice walks fault fits.by.are_walks take,
-            (fault, is_candidate walks fault fits.by, (record { walks = walks; by = fits.by }, (take, fits.is))),
           ))
           (any_of (λ walks. (fault : Fault) × Contains (candidates of.class rtype every.0) fault × Fitting walks fault)
           (λ walks. any_of (Fitting walks) (λ fault.
           both
           (shows_decided (with_sets setting) query rtype every.0 every.1.each every.1.all (least_decided config rewrites) (greatest_decided config rewrites) of fault)
-          (both (walks_take walks fault) (same_value value (entry_value (made query rtype walks fault)))))
+          (both (walks_take walks fault) (same_value value (entry_value (entry_with query rtype (first_repeats walks) walks fault)))))
           (candidates of.class rtype every.0))
           choices)
-
-  -- an entry's walks come back as it says
-  repeats_so : (entry : ReportEntry) → ((first : Walk) → slice_get entry.walks 0 ≡ Some first → entry.repeats ≡ repeats first.states) → (walks : List Walk)
-      → entry.walks ≡ walks → (walks ≡ [] → ⊥) → entry.repeats ≡ first_repeats walks
-  repeats_so entry told [] is some = absurd (some refl)
-  repeats_so entry told (walk ∷ walks) is some = told walk (ap (λ (w : List Walk). slice_get w 0) is)
 
   -- whether the value is a right entry
   right_decided : Decided (IsRight config rewrites value)
   right_decided = by (names_decided value) (some_in_force config rewrites).0 (some_in_force config rewrites).1 where
-    some_walks : (setting : Setting) (query : Labels) (rtype : RrType) (fault : Fault) (walks : List Walk) → ShowsBy (with_sets setting) query rtype fault walks → walks ≡ [] → ⊥
-    some_walks setting query rtype fault walks by e =
-        subst (λ (w : List Walk). WalksTake w fault) e (taken (with_sets setting) walks fault by.show)
-
-    right_fits : (followed : List Labels) → IsInForce config rewrites followed → (right : IsRight config rewrites value)
-        → Fits followed right.entry.query right.entry.seen.rtype right.entry.walks right.entry.seen.fault
-    right_fits followed in_force right =
-        let sets : right.followed ≡ followed = one_in_force config rewrites right.followed followed right.in_force in_force in
-        let by : ShowsBy (with_sets (following config rewrites followed)) right.entry.query right.entry.seen.rtype right.entry.seen.fault right.entry.walks =
-        subst (λ (f : List Labels). ShowsBy (with_sets (following config rewrites f)) right.entry.query right.entry.seen.rtype right.entry.seen.fault right.entry.walks) sets right.shows in
-        let same : right.entry.repeats ≡ first_repeats right.entry.walks =
-        repeats_so right.entry right.repeated right.entry.walks refl
-        (some_walks (following config rewrites followed) right.entry.query right.entry.seen.rtype right.entry.seen.fault right.entry.walks by) in
-        record {
-          by = by;
-          is = right.is ∙ ap (λ b. entry_value (record { seen = right.entry.seen; query = right.entry.query; repeats = b; walks = right.entry.walks })) same;
-        }
-
     by : Decided ((query : Labels) × ((rtype : RrType) × NamesQuery value query rtype)) → (followed : List Labels) → IsInForce config rewrites followed
         → Decided (IsRight config rewrites value)
     by (inr none) followed in_force =
@@ -272,28 +215,8 @@ module _ (config : Config) (rewrites : ℕ) (value : Data) where
           ),
         ))
     by (inl (query, (rtype, names))) followed in_force =
-        turned
-        (λ (walks, (fault, fits)). record {
-          entry = made followed query rtype walks fault;
-          is = fits.is;
-          is_name = names.is_name;
-          followed = followed;
-          in_force = in_force;
-          shows = fits.by;
-          repeated = λ first is. first_repeats_is walks first is;
-        })
-        (λ right.
-        let own : NamesQuery value right.entry.query right.entry.seen.rtype =
-        subst (λ (v : Data). NamesQuery v right.entry.query right.entry.seen.rtype) (sym right.is) (entry_names right.entry right.is_name) in
-        let (same, type_is) = one_query value right.entry.query query right.entry.seen.rtype rtype own names in (
-          right.entry.walks,
-          (
-            right.entry.seen.fault,
-            subst (λ (n : Labels). Fits followed n rtype right.entry.walks right.entry.seen.fault) same
-                (subst (λ (t : RrType). Fits followed right.entry.query t right.entry.walks right.entry.seen.fault) type_is (right_fits followed in_force right)),
-          ),
-        ))
-        (fits_decided followed query (in_own_class config query names.is_name) rtype)
+        let told = right_told (following config rewrites followed) in_force value query rtype names in
+        turned told.0 told.1 (shown_decided followed query (in_own_class config query names.is_name) rtype)
 
 -- ---- all entries
 

@@ -51,12 +51,14 @@ walks_exist setting rtype query =
 -- ---- the two sets of learnt addresses
 
 module _ (config : Config) (rewrites : ℕ) where
-  least_decided : (name : Labels) → Decided (InLeast config rewrites name)
+  -- whether a name is in the least set is decided
+  pub least_decided : (name : Labels) → Decided (InLeast config rewrites name)
   least_decided name =
       let (learnt, is) = rounds_exist config rewrites (length config.servers) [] in
       turned (in_least config rewrites learnt is name).1 (in_least config rewrites learnt is name).0 (among same_name learnt name)
 
-  greatest_decided : (name : Labels) → Decided (InGreatest config rewrites name)
+  -- and so is whether it is in the greatest
+  pub greatest_decided : (name : Labels) → Decided (InGreatest config rewrites name)
   greatest_decided name =
       let (learnt, is) = rounds_exist config rewrites (length config.servers) (server_names config) in
       turned (in_greatest config rewrites learnt is name).1 (in_greatest config rewrites learnt is name).0 (among same_name learnt name)

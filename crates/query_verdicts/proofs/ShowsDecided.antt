@@ -71,6 +71,13 @@ takes_two one other (faults.Answers class rtype) =
     (both (both (same_bool (is_authoritative one.leaf) true) (same_bool (is_authoritative other.leaf) true)) (not_so (same_leaf one.leaf other.leaf)))
 takes_two one other _ = inr (λ none. none)
 
+-- however many walks show it: no other number of walks does
+pub walks_take : (walks : List Walk) (fault : Fault) → Decided (WalksTake walks fault)
+walks_take [] fault = inr (λ none. none)
+walks_take (walk ∷ []) fault = takes_one walk fault
+walks_take (one ∷ other ∷ []) fault = takes_two one other fault
+walks_take (one ∷ other ∷ third ∷ walks) fault = inr (λ none. none)
+
 -- ---- what the zones show
 
 -- both sides of a delegation are so
