@@ -1,7 +1,6 @@
 pub mod AnsweredRows
 mod RowsBefore
 mod FirstCopies
-mod GlueAlone
 mod HeldFound
 mod ListedNames
 mod NamingLists

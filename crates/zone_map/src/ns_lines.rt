@@ -1,6 +1,6 @@
 //! The lines of name servers of zone cuts and origins.
 
-ghost use Rattle.std.specs.Prelude.{◌≡◌, ◌++◌, ◌∷◌, ◌&&◌, ◌||◌, [], false, true, not, map, IfOk, OnOk};
+ghost use Rattle.std.specs.Prelude.{◌≡◌, ◌++◌, ◌∷◌, ◌&&◌, ◌||◌, [], false, true, map, IfOk, OnOk};
 ghost use Rattle.dns_data.specs.Name.{is_prefix};
 ghost use Rattle.net_model.specs.Zone.{ns_names};
 ghost use Rattle.name_ends.specs.Asked.{ends_in};
@@ -9,16 +9,13 @@ ghost use Rattle.zone_cuts.specs.Cuts.{is_glued};
 ghost use Rattle.zone_map.specs.Delegations.{at_cut, at_origin, dead_lines, is_asked, is_lame, is_leftover, leftover_line, ns_columns, ns_counts, ns_line, ns_text, place_at, side_lines};
 ghost use Rattle.zone_map.specs.Lines.{if_so};
 ghost use Rattle.zone_map.specs.RowZones.{no_deps};
-ghost use Rattle.net_model.specs.Nearest.{is_configured, is_top};
-ghost use Rattle.net_model.specs.Step.{may_follow};
 ghost use Rattle.zone_lookup.specs.CutFlags.{flags_of};
-ghost use Rattle.zone_lookup.specs.LentCut.{cut_of};
 
 use crate::lines::{Line, put_line, put_name_column, put_place, row_columns};
 use crate::row_zone::{RowZone, is_named};
 use dns_data::{List, Name, NoMemory, Octets};
 use name_ends::Asker;
-use net_model::{Cut, Deps, is_among};
+use net_model::{Deps, is_among};
 use std::alloc::Global;
 use zone_cuts::is_glued;
 use zone_lookup::{CutFlags, Hosts, LearntSets, LentCut};
@@ -204,7 +201,8 @@ fn put_sides(
     put_if(alloc, lines, differ, at, cut, ns, NsWord::GlueDiffers)
 }
 
-/// What a referral to a name server shows. Of one that isn't configured only its glue is looked for.
+/// What a referral to a name server shows. The sets of learnt addresses are empty: which they are doesn't matter to what
+/// both zones hold.
 fn side_flags(
     alloc: Global,
     hosts: &Hosts<'_>,
@@ -215,63 +213,18 @@ fn side_flags(
     requires { is_prefix at.now.zone.origin cut.now ≡ true }
     ensures { IfOk result (λ flags. flags ≡ flags_of hosts.now no_deps (place_at at.now.row at.now.zone cut.now ns.now)) }
 {
+    let none = Deps {
+        least: List::new(alloc),
+        greatest: List::new(alloc),
+    };
+    let sets = LearntSets::build(alloc, none)?;
     let place = LentCut {
         server: &at.row().server,
         zone: &at.tree().zone().origin,
         cut,
         ns,
     };
-    if is_known(hosts, ns) {
-        all_flags(alloc, hosts, place)
-    } else {
-        glue_flags(alloc, hosts, place)
-    }
-}
-
-/// Whether the name server is configured or a top server.
-fn is_known(hosts: &Hosts<'_>, ns: &Name) -> bool
-    ensures { result ≡ (is_configured hosts.now ns.now || is_top hosts.now ns.now) }
-{
-    hosts.host(ns).is_some() || is_among(hosts.config().tops(), ns)
-}
-
-/// What a referral shows, where all is asked. The sets of learnt addresses are empty: which they are doesn't matter to what
-/// both zones hold.
-fn all_flags(alloc: Global, hosts: &Hosts<'_>, place: LentCut<'_>) -> Result<CutFlags, NoMemory>
-    requires { is_prefix place.zone.now place.cut.now ≡ true }
-    ensures { IfOk result (λ flags. flags ≡ flags_of hosts.now no_deps (cut_of place.entry)) }
-{
-    let sets = LearntSets::build(
-        alloc,
-        Deps {
-            least: List::new(alloc),
-            greatest: List::new(alloc),
-        },
-    )?;
     CutFlags::of(alloc, hosts, &sets, place)
-}
-
-/// What a referral shows to a name server that is neither configured nor a top server: whether glue is missing.
-fn glue_flags(alloc: Global, hosts: &Hosts<'_>, place: LentCut<'_>) -> Result<CutFlags, NoMemory>
-    requires { (is_configured hosts.now place.ns.now || is_top hosts.now place.ns.now) ≡ false }
-    ensures { IfOk result (λ flags. flags ≡ flags_of hosts.now no_deps (cut_of place.entry)) }
-{
-    let cut = place.copy(alloc)?;
-    Ok(CutFlags {
-        differs: false,
-        no_glue: lacks_glue(hosts, &cut),
-        glue_differs: false,
-        cyclic: false,
-        no_address: false,
-        unhosted: true,
-    })
-}
-
-/// Whether the name server is at or below the cut, and could not be followed by its glue.
-fn lacks_glue(hosts: &Hosts<'_>, cut: &Cut) -> bool
-    ensures { result ≡ (is_prefix cut.now.cut cut.now.ns && not (may_follow hosts.now cut.now [])) }
-{
-    cut.cut.is_prefix_of(&cut.ns) && !hosts.may_follow(cut, &[])
 }
 
 /// Puts the line of a zone cut at the end of which the row's server itself holds the zone, though it isn't delegated to it.
