@@ -6,26 +6,13 @@ use Rattle.std.proofs.lemmas.List.Kept.{AllPairs-cons}
 use Rattle.dns_data.proofs.Membership.{none_in_nil, has_first, has_later, first_or_later, all_from_contains, pairs_first, pairs_rest}
 use Rattle.dns_data.proofs.OrderedLists.{same_rising}
 use Rattle.net_model.specs.Order.{put_in_order, in_order, beside}
+use Rattle.net_model.proofs.ItemsInOrder.{from_put, from_order}
 use Rattle.plain_words.specs.Same.{HaveSame}
 
 module _ {X : Type 0} (R : X → X → Ordering) (total : IsTotalOrder R) where
   -- each item stands before the later ones
   abbrev Rises : List X → Type 0
   Rises xs = AllPairs (λ a b. R a b ≡ Less) xs
-
-  -- an item put in order adds no other
-  from_put : (item : X) (xs : List X) (x : X) → Contains (put_in_order R item xs) x → (item ≡ x) ⊎ Contains xs x
-  from_put item [] x has = first_or_later item [] x has
-  from_put item (first ∷ rest) x has = by (R item first) has (from_put item rest x) where
-    by : (o : Ordering) → Contains (beside item first rest (put_in_order R item rest) o) x
-        → (Contains (put_in_order R item rest) x → (item ≡ x) ⊎ Contains rest x) → (item ≡ x) ⊎ Contains (first ∷ rest) x
-    by Less has later = first_or_later item (first ∷ rest) x has
-    by Equal has later = inr has
-    by Greater has later =
-        elim (first_or_later first (put_in_order R item rest) x has) [
-          | inl same ↦ inr (subst (Contains (first ∷ rest)) same (has_first first rest))
-          | inr behind ↦ elim (later behind) [ inl own ↦ inl own | inr other ↦ inr (has_later first rest x other) ]
-        ]
 
   -- the list stays in order
   put_rises : (item : X) (xs : List X) → Rises xs → Rises (put_in_order R item xs)
@@ -43,19 +30,10 @@ module _ {X : Type 0} (R : X → X → Ordering) (total : IsTotalOrder R) where
       by Equal e later = rises
       by Greater e later =
           AllPairs-cons (λ a b. R a b ≡ Less) first (put_in_order R item rest)
-          (all_from_contains (λ x. R first x ≡ Less) (put_in_order R item rest) (λ x has. elim (from_put item rest x has) [
+          (all_from_contains (λ x. R first x ≡ Less) (put_in_order R item rest) (λ x has. elim (from_put R item rest x has) [
             | inl own ↦ subst (λ (y : X). R first y ≡ Less) own (total.antisymm first item ∙ ap ordering_reverse e)
             | inr behind ↦ pairs_first (λ a b. R a b ≡ Less) first rest rises x behind
           ])) later
-
-  -- the items in order are items of the list
-  pub from_order : (xs : List X) (x : X) → Contains (in_order R xs) x → Contains xs x
-  from_order [] x has = has
-  from_order (item ∷ xs) x has =
-      elim (from_put item (in_order R xs) x has) [
-        | inl same ↦ subst (Contains (item ∷ xs)) same (has_first item xs)
-        | inr later ↦ has_later item xs x (from_order xs x later)
-      ]
 
   -- each stands before the later ones
   pub order_rises : (xs : List X) → Rises (in_order R xs)
@@ -89,7 +67,7 @@ module _ {X : Type 0} (R : X → X → Ordering) (total : IsTotalOrder R) where
     pub order_has : (xs : List X) → ((y : X) → Contains xs y → P y) → (x : X) → Contains xs x → Contains (in_order R xs) x
     order_has [] each x has = has
     order_has (item ∷ xs) each x has =
-        put_has item (in_order R xs) x (each item (has_first item xs)) (λ y among. each y (has_later item xs y (from_order xs y among)))
+        put_has item (in_order R xs) x (each item (has_first item xs)) (λ y among. each y (has_later item xs y (from_order R xs y among)))
         (elim (first_or_later item xs x has) [
           | inl same ↦ inl same
           | inr later ↦ inr (order_has xs (λ y among. each y (has_later item xs y among)) x later)
@@ -102,11 +80,11 @@ module _ {X : Type 0} (R : X → X → Ordering) (total : IsTotalOrder R) where
         subst Rises same (order_rises xs),
         λ item. (
           (λ has. subst (λ (l : List X). Contains l item) same (order_has xs each item has)),
-          (λ has. from_order xs item (subst (λ (l : List X). Contains l item) (sym same) has)),
+          (λ has. from_order R xs item (subst (λ (l : List X). Contains l item) (sym same) has)),
         ),
       ),
       λ is. same_rising R total (in_order R xs) list (order_rises xs) is.0
-          (λ item has. (is.1 item).0 (from_order xs item has))
+          (λ item has. (is.1 item).0 (from_order R xs item has))
           (λ item has. order_has xs each item ((is.1 item).1 has)),
     )
 
@@ -114,10 +92,10 @@ module _ {X : Type 0} (R : X → X → Ordering) (total : IsTotalOrder R) where
     pub orders_same : (xs ys : List X) → ((y : X) → Contains xs y → P y) → ((y : X) → Contains ys y → P y) → (in_order R xs ≡ in_order R ys) ↔ HaveSame xs ys
     orders_same xs ys each every = (
       λ same item. (
-        (λ has. from_order ys item (subst (λ (l : List X). Contains l item) same (order_has xs each item has))),
-        (λ has. from_order xs item (subst (λ (l : List X). Contains l item) (sym same) (order_has ys every item has))),
+        (λ has. from_order R ys item (subst (λ (l : List X). Contains l item) same (order_has xs each item has))),
+        (λ has. from_order R xs item (subst (λ (l : List X). Contains l item) (sym same) (order_has ys every item has))),
       ),
       λ both. same_rising R total (in_order R xs) (in_order R ys) (order_rises xs) (order_rises ys)
-          (λ item has. order_has ys every item ((both item).0 (from_order xs item has)))
-          (λ item has. order_has xs each item ((both item).1 (from_order ys item has))),
+          (λ item has. order_has ys every item ((both item).0 (from_order R xs item has)))
+          (λ item has. order_has xs each item ((both item).1 (from_order R ys item has))),
     )

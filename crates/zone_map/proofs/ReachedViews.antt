@@ -1,6 +1,6 @@
 -- A row is reached exactly where the view of its origin shows it.
-use Rattle.std.proofs.Common.{◌≡◌, Bool, true, false, ◌&&◌, cond, List, [], ◌∷◌, ◌++◌, map, Contains, Some, refl, sym, ap, subst, inl, inr, true≢false}
-use Rattle.std.specs.Prelude.{◌↔◌, ◌⊎◌, Option, is_some}
+use Rattle.std.proofs.Common.{◌≡◌, Bool, true, false, ◌&&◌, cond, List, [], ◌∷◌, ◌++◌, map, Contains, refl, sym, subst, inl, inr, true≢false}
+use Rattle.std.specs.Prelude.{◌↔◌, ◌⊎◌}
 use Rattle.std.specs.List.{list_any}
 use Rattle.std.proofs.lemmas.Bool.{and_parts, and_from, eqb-true, or_left, or_right}
 use Rattle.std.proofs.lemmas.List.Elements.{Contains-append_cases}
@@ -19,13 +19,14 @@ use Rattle.net_model.specs.declared.walk.Leaf.{Leaf}
 use Rattle.net_model.specs.declared.walk.Leaf.TheVariants.{Answer}
 use Rattle.net_model.specs.declared.walk.Walk.{Walk}
 use Rattle.net_model.specs.Step.{Setting, following}
-use Rattle.net_model.specs.Walk.{AreWalks, IsWalk, walk_along}
+use Rattle.net_model.specs.Walk.{IsWalk}
 use Rattle.net_model.proofs.FaultOrder.{one_type}
 use Rattle.net_model.proofs.InForce.{one_in_force}
 use Rattle.config_load.specs.declared.loaded.RowFiles.{RowFiles}
 use Rattle.site_checks.specs.Ends.{end_eq, end_of, ends_of, is_answer, last_server, leaf_eq, all_ends}
 use Rattle.site_checks.specs.declared.views.TypedEnd.{TypedEnd}
 use Rattle.site_checks.specs.declared.views.View.{View}
+use Rattle.zone_lookup.proofs.ListedWalks.{is_listed, listed_is}
 use Rattle.zone_map.specs.Limits.{reached_queries}
 use Rattle.zone_map.specs.Reached.{IsRowReached, answers_at, is_alone, shows_reached}
 use Rattle.zone_map.specs.Rewrites.{most_rewrites}
@@ -90,26 +91,6 @@ module _ {X : Type 0} (eq : X → X → Bool) where
           | inl none ↦ absurd (true≢false (sym none))
           | inr some ↦ some
         ]
-
--- ---- all walks of a query, as a list
-
-module _ (setting : Setting) (query : Labels) (rtype : RrType) (walks : List Walk) (are : AreWalks setting query rtype walks) where
-  -- each of them is a walk of the query
-  listed_is : (walk : Walk) → Contains walks walk → IsWalk setting query rtype walk
-  listed_is walk has =
-      let among = subst (λ (found : List (Option Walk)). Contains found (Some walk)) (sym are.2) (map_has (λ (w : Walk). Some w) walks walk has) in
-      let found = from_map (walk_along setting query rtype) are.0 (Some walk) among in
-      (found.0, found.2)
-
-  -- and each walk of the query is one of them
-  is_listed : (walk : Walk) → IsWalk setting query rtype walk → Contains walks walk
-  is_listed walk is =
-      let there = (are.1.all is.0).1 (ap is_some is.1) in
-      let among = subst (λ (found : List (Option Walk)). Contains found (Some walk)) are.2
-      (subst (Contains (map (walk_along setting query rtype) are.0)) is.1 (map_has (walk_along setting query rtype) are.0 is.0 there)) in
-      let found = from_map (λ (w : Walk). Some w) walks (Some walk) among in
-      let same : found.0 ≡ walk = cc in
-      subst (Contains walks) same found.1
 
 -- ---- ends
 
