@@ -16,8 +16,8 @@ use Rattle.address_deps.specs.declared.told.Turn.TheVariants.{Gives, Fails, Goes
 abbrev pub AreServers : Config → List Labels → Type 0
 AreServers config names = (name : Labels) → is_among names name ≡ true → is_among (server_names config) name ≡ true
 
--- whether a path gives an address that takes this turn and goes on from a node from which it does or doesn't; where the
--- turn is an end, the path has no other turn behind it
+-- Whether a path that takes this turn gives an address: a turn that goes on does where the rest of the path does from the
+-- node to which it leads, and an end does only as the path's last turn.
 abbrev pub turn_gives : List Labels → (ℕ → Bool) → Bool → Turn → Bool
 turn_gives followed on is_last Gives = is_last
 turn_gives followed on is_last Fails = false

@@ -7,7 +7,8 @@
 //! name. The class at the place of differing answers stays that of the configuration's own base names, and so does the
 //! representative of an overlong rewrite.
 //!
-//! The judging is class_judge's, whose `Judge` a `ScopeJudge` lends to whoever judges subjects of both kinds.
+//! The judging is class_judge's, whose `Judge` a `ScopeJudge` lends by `as_judge` to whoever judges subjects of both kinds,
+//! as groot_run does; that a `ScopeJudge` is a work itself, with a `report` of its own, is for other programs.
 //!
 //! Costs: `prepare` makes what query_verdicts prepares of the whole configuration, and two graphs of base names, once.
 //! What is judged is the names of the scope alone. What a verdict and a report cost is said in query_verdicts.

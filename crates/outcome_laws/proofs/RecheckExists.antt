@@ -180,7 +180,7 @@ module _ (config : Config) (rewrites : ℕ) (value : Data) where
               is = is;
             };
           })
-          (λ fits.
+          (λ (fits : ByWalks setting query rtype value).
           let by : ShowsBy (with_sets setting) query rtype fits.shown.fault fits.walks =
           record { may = fits.shown.may; are_walks = fits.are_walks; show = fits.shown.show } in
           let take : WalksTake fits.walks fits.shown.fault = taken (with_sets setting) fits.walks fits.shown.fault fits.shown.show in (

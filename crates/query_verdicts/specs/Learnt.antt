@@ -39,8 +39,8 @@ pub record IsRightLearnt (config : Config) (rewrites states : ℕ) (learnt : Lea
   pub all_followed : learnt.all_followed ≡ true → FollowsAll config learnt.sets.least
   pub alike : AreAlikeBelow config rewrites states learnt.alike
 
--- whichever servers are followed, an address of the name can be learnt or can't, as is told, and the name reaches no more
--- pairs than it may
+-- whichever configured servers are followed, an address of the name can be learnt or can't, as is told; and the name
+-- reaches no more pairs than it may
 abbrev pub IsKnownOf : Config → ℕ → ℕ → Labels → Bool → Type 0
 IsKnownOf config rewrites states name learnt =
     IsToldOf config rewrites name (Known learnt) × (PassesStates config rewrites states name → ⊥)

@@ -393,9 +393,9 @@ abbrev pub GoesStraightIn : Config → Deps → ℕ → ℕ → Labels → Strai
 GoesStraightIn config deps rewrites most query ends =
     (setting : Setting) → IsSettingOf config deps setting → rewrites ≤ setting.rewrites → (rtype : RrType) → GoesStraight setting deps most query ends rtype
 
--- the next referral of a search that has passed so many of the states, with what walks end in before and after: where
--- walks end at all of them the query goes straight, over so many states besides as there are top servers; where a server
--- refers the query the search has passed all up to that state
+-- What a search finds that has passed so many of the queued states, with what walks end in before it and after it. If it
+-- finds no referral, the query goes straight to these ends, over no more states than are queued, once for each rewrite, and
+-- one for each top server. If it finds one, the search has passed all states up to the one whose server refers the query.
 abbrev pub IsNextReferral : Config → Labels → List Queued → ℕ → StraightEnds → StraightEnds → NextReferral → Type 0
 IsNextReferral config query queue before ends_before ends referring.Ends =
     (deps : Deps) → HavePassed config deps query queue before ends_before

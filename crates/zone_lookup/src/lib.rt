@@ -26,8 +26,7 @@
 //! octets a name server, found by the place of the cut's name. `may_follow` passes over the top servers. Those that hold a
 //! zone for a name are found by its prefixes, and `learnt_at_tops` asks each of them once. Where thousands hold the same
 //! zones they are asked as one: `TopServers::unlike` compares each top server's zones, record by record, with those of a
-//! few others, and leaves the server out where they are the same. That no zone refers or rewrites a name would be told
-//! sooner, but most zones do, and where none gives an address each would still be asked.
+//! few others, and leaves the server out where they are the same.
 #![tactic(auto)]
 
 mod alike;
