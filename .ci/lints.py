@@ -2,7 +2,8 @@
 """Lists what the house doesn't allow in the crates' code: lints.py [--drop]
 
 - `export`: a function, a constant or a method that a crate exports and no other crate calls, tests not counted. The name of a
-  function counts only in a file that names its crate. A law, in a module `laws`, is there for its contract.
+  function counts only in a file that names its crate, that of a method in one that names its crate or its type. A law, in a
+  module `laws`, is there for its contract.
 - `door`: an item that is `pub` in a private module, or a method that is `pub` at a type, where the crate doesn't export it:
   `pub(crate)` says so.
 - `parameters`: a function of more than seven parameters, `self` counted.
@@ -124,20 +125,28 @@ def doors(crate):
 
 
 def exports(crate, others):
-    """The exported calls that no other crate names: a function only counts as named in a file that names its crate."""
+    """The exported calls that no other crate names: a name only counts in a file that names the crate, or a method's type."""
     files = [file.code for other in others for file in other.files]
-    text = "\n".join(files)
-    naming = "\n".join(code for code in files if re.search(rf"\b{crate.name}\b", code))
+
+    def naming(*words):
+        return "\n".join(code for code in files if re.search(rf"\b(?:{'|'.join(words)})\b", code))
+
+    of_crate = naming(crate.name)
+    of_types = {}
     for file in crate.modules():
         if file.path.name == "laws.rt":
             continue
         for at in ITEM.finditer(file.code):
             name = at.group(3)
-            if at.group(1) == "pub " and at.group(2) in ("fn", "const") and name in crate.exported and not re.search(rf"\b{name}\b", naming):
+            if at.group(1) == "pub " and at.group(2) in ("fn", "const") and name in crate.exported and not re.search(rf"\b{name}\b", of_crate):
                 yield "export", crate.name, name, file, at.start()
         for at in METHOD.finditer(file.code):
             owner, name = file.type_at(at.start()), at.group(2)
-            if at.group(1) == "pub " and owner in crate.exported and not re.search(rf"[.:]{name}\b", text):
+            if at.group(1) != "pub " or owner not in crate.exported:
+                continue
+            if owner not in of_types:
+                of_types[owner] = naming(crate.name, owner)
+            if not re.search(rf"[.:]{name}\b", of_types[owner]):
                 yield "export", crate.name, f"{owner}::{name}", file, at.start()
 
 
