@@ -25,7 +25,8 @@ use Rattle.graph_form.specs.Graph.{PlainGraph}
 use Rattle.graph_form.specs.Verdict.{AreShownOf}
 use Rattle.graph_form.specs.declared.report.Seen.{Seen}
 use Rattle.interp_graph.specs.Asked.{IsBuilt}
-use Rattle.walk_laws.proofs.FaultsCarried.{is_of_walks, shown, shown_alike}
+use Rattle.walk_laws.specs.OfWalks.{is_of_walks}
+use Rattle.walk_laws.proofs.FaultsCarried.{shown, shown_alike}
 use Rattle.query_verdicts.specs.AlikeBelow.{IsAlikeBelow, IsOpenGraph}
 use Rattle.query_verdicts.specs.Queries.{WalksLike, limited_to}
 use Rattle.query_verdicts.specs.Verdict.{AreFaultsOf, IsClassVerdict, PassesStates}

@@ -8,7 +8,7 @@ ghost use Rattle.query_classes.specs.TreeNames.{AreBaseNamesOf};
 ghost use Rattle.query_verdicts.specs.AlikeBelow.{AreAlikeBelow, IsAlikeBelow};
 ghost use Rattle.query_verdicts.specs.Learnt.{IsRightLearnt};
 ghost use Rattle.query_verdicts.specs.Verdict.{PassesStates};
-ghost use Rattle.walk_laws.proofs.FaultsCarried.{is_of_walks};
+ghost use Rattle.walk_laws.specs.OfWalks.{is_of_walks};
 
 use crate::alike::AlikeBelow;
 use crate::learnt::Learnt;

@@ -28,6 +28,7 @@ use Rattle.net_model.specs.Shown.{FaultSetting, with_sets, Refers, EndsBehind, L
 use Rattle.net_model.specs.Step.{following}
 use Rattle.net_model.specs.Tails.{WalksAs, is_overlong}
 use Rattle.net_model.specs.Walk.{IsWalk}
+use Rattle.walk_laws.specs.OfWalks.{is_of_walks}
 use Rattle.walk_laws.proofs.JoinedGround.{own_covers}
 use Rattle.walk_laws.proofs.Represents.{represents_everywhere}
 use Rattle.walk_laws.proofs.WalksAlike.ClassTails.{named_everywhere, tails_in_class}
@@ -156,12 +157,6 @@ module _ (setting : FaultSetting) (above own other : Labels) (rtype : RrType) (a
   )
   shown (walk ∷ []) (faults.Overlong place) never are show = absurd (never place refl)
   shown _ _ never are show = absurd show
-
--- a fault that isn't told of a class or of its representative alone
-abbrev pub is_of_walks : Fault → Bool
-is_of_walks (faults.Answers class shown_with) = false
-is_of_walks (faults.Overlong place) = false
-is_of_walks fault = true
 
 -- what a query shows the name with another tail does, where that walks as the query does
 pub shown_alike : (config : Config) (rewrites : ℕ) (above own other : Labels) (rtype : RrType)

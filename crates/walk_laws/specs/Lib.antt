@@ -7,4 +7,5 @@ pub use Rattle.net_model.specs.Step
 pub use Rattle.net_model.specs.Tails
 pub use Rattle.net_model.specs.Tree
 pub use Rattle.net_model.specs.Walk
+pub mod OfWalks
 pub mod Outcome

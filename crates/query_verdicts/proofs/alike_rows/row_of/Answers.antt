@@ -2,7 +2,7 @@ use Rattle.std.proofs.Common.{◌≡◌, ◌≤◌, ℕ, true, List, Option, sym
 use Rattle.std.specs.Prelude.{IfSome}
 use Rattle.std.specs.List.{list_all}
 use Rattle.graph_form.specs.declared.report.Seen.{Seen}
-use Rattle.walk_laws.proofs.FaultsCarried.{is_of_walks}
+use Rattle.walk_laws.specs.OfWalks.{is_of_walks}
 use Rattle.query_verdicts.specs.AlikeBelow.{IsOpenGraph}
 use Rattle.query_verdicts.proofs.AlikeVerdicts.{told_of_copy}
 use Rattle.query_verdicts.proofs.alike_rows.row_of.Goals as goal
