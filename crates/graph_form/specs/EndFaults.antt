@@ -12,6 +12,7 @@ use Rattle.net_model.specs.declared.walk.Leaf.{Leaf}
 use Rattle.net_model.specs.declared.walk.Leaf.TheVariants as leaves
 use Rattle.net_model.specs.declared.walk.State.{State}
 use Rattle.net_model.specs.declared.walk.Walk.{Walk}
+use Rattle.net_model.specs.Tails.{is_overlong}
 use Rattle.graph_form.specs.declared.end_faults.EndFault.{EndFault}
 use Rattle.graph_form.specs.declared.end_faults.EndFault.TheVariants as ends
 use Rattle.graph_form.specs.declared.node.Branch.{Branch}
@@ -40,6 +41,11 @@ is_of_end (faults.Limit place) = true
 is_of_end (faults.Overlong place) = true
 is_of_end (faults.Blackhole place) = true
 is_of_end fault = false
+
+-- the branch ends in a name of more than 255 octets
+abbrev pub is_overlong_end : Branch → Bool
+is_overlong_end (Go hop to) = false
+is_overlong_end (End hop leaf) = is_overlong leaf
 
 -- with these lists of learnt addresses the fault of an end is shown: that of a name server without an address if it isn't
 -- in the greatest

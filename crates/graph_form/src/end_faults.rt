@@ -2,7 +2,7 @@
 
 ghost use Rattle.std.specs.Prelude.{◌≡◌, IfOk, option_map};
 ghost use Rattle.std.specs.Option.{option_copied};
-ghost use Rattle.graph_form.specs.EndFaults.{branch_fault, end_fault, fault_of, referral_to, walk_fault};
+ghost use Rattle.graph_form.specs.EndFaults.{branch_fault, end_fault, fault_of, is_overlong_end, referral_to, walk_fault};
 ghost use Rattle.graph_form.specs.FirstPath.{is_fault};
 
 use crate::node::Branch;
@@ -46,6 +46,16 @@ impl<'w> EndFault<'w> {
             | (EndFault::Overlong(place), Fault::Overlong(other)) => **place == *other,
             _ => false,
         }
+    }
+}
+
+/// Whether the branch ends in a name of more than 255 octets.
+pub fn is_overlong_end(branch: &Branch) -> bool
+    ensures { result ≡ is_overlong_end branch.now }
+{
+    match branch {
+        Branch::End { leaf, .. } => matches!(leaf.get(), Leaf::Overlong(_)),
+        Branch::Go { .. } => false,
     }
 }
 

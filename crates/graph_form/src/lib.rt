@@ -24,7 +24,7 @@ mod shows;
 mod verdict;
 
 pub use branches::{TypedBranch, typed_branches};
-pub use end_faults::{EndFault, walk_fault};
+pub use end_faults::{EndFault, is_overlong_end, walk_fault};
 pub use first_faults::{OfFault, first_of_each};
 pub use first_walks::trails;
 pub use graph::{Graph, type_count};

@@ -18,9 +18,7 @@ use Rattle.groot_run.specs.Outcome.{Compares, HasMoreNamesInBoth, told_same, too
 use Rattle.label_graph.specs.LiveSet.{IsClosed}
 use Rattle.net_model.specs.declared.class.Class.{Class}
 use Rattle.net_model.specs.declared.config.Config.{Config}
-use Rattle.net_model.specs.declared.place.Place.{Place}
 use Rattle.net_model.specs.declared.walk.Leaf.{Leaf}
-use Rattle.net_model.specs.declared.walk.Leaf.TheVariants as leaves
 use Rattle.net_model.specs.declared.walk.Walk.{Walk}
 use Rattle.net_model.specs.Class.{IsRepresentative, class_name}
 use Rattle.net_model.specs.Learnt.{IsInForce}
@@ -44,16 +42,13 @@ use Rattle.same_answers.specs.Sameness.{IsSameness}
 use Rattle.same_answers.specs.Verdict.{IsFirstApart, PassesInOne}
 use Rattle.same_answers.specs.declared.sameness.Sameness.{Sameness}
 use Rattle.same_answers.specs.declared.sameness.Sameness.TheVariants.{Same, Apart}
+use Rattle.same_answers.proofs.GraphEnds.{place_of_overlong}
 use Rattle.same_answers.proofs.Comparing.{covers_first, representative_is_name, alike_by_classes}
 use Rattle.walk_laws.specs.Outcome.{outcome_of, HasOutcome}
 use Rattle.outcome_laws.proofs.ClassesDecided.{test_of, by_test_of, test_of_by, NoClassWith, names_listed, more_names, first_class_with}
 use Rattle.outcome_laws.proofs.TreeListed.{below_exist}
 
 -- ---- overlong walks
-
-overlong_is : (leaf : Leaf) → is_overlong leaf ≡ true → (place : Place) × (leaf ≡ leaves.Overlong place)
-overlong_is (leaves.Overlong place) e = (place, refl)
-overlong_is _ e = cc
 
 module _ (config : Config) (rewrites : ℕ) (query : Labels) where
   -- with this set in force a walk with some type ends overlong
@@ -89,7 +84,7 @@ module _ (config : Config) (rewrites : ℕ) (query : Labels) where
           let same : bounded.followed ≡ followed = one_in_force config rewrites bounded.followed followed bounded.in_force in_force in
           let of_set : IsBoundedWith (following config rewrites followed) query rtype =
           subst (λ (f : List Labels). IsBoundedWith (following config rewrites f) query rtype) same (bounded.bounded rtype) in
-          let (place, e) = overlong_is walk.leaf long in
+          let (place, e) = place_of_overlong walk.leaf long in
           of_set walk place ((walks_exist (following config rewrites followed) rtype query).1.each walk has) e
 
   -- ---- outcomes

@@ -29,6 +29,7 @@ use Rattle.net_model.specs.Walk.{IsBoundedWith, IsWalk, walk_along}
 use Rattle.net_model.proofs.Counting.{more_images}
 use Rattle.net_model.proofs.NearestZones.{nearest_tells}
 use Rattle.net_model.proofs.WalkEnds.{LeadsSo, walk_ends}
+use Rattle.graph_form.specs.EndFaults.{is_overlong_end}
 use Rattle.graph_form.specs.Graph.{PlainGraph, arm_of}
 use Rattle.graph_form.specs.GraphOf.{HasState, HasType, IsArm, TellsStep}
 use Rattle.graph_form.specs.declared.node.Arm.{Arm}
@@ -43,7 +44,7 @@ use Rattle.straight_walks.specs.Straight.{NoOriginBelow}
 use Rattle.straight_walks.proofs.BelowOrigins.{same_nearest}
 use Rattle.walk_laws.proofs.WalksAlike.OpenBack.{open_back}
 use Rattle.walk_laws.proofs.WalksAlike.OpenWalks.{AllOpen, OpensAt, item_there, open_walks}
-use Rattle.query_verdicts.specs.AlikeBelow.{HasNoneBelow, IsOpenGraph, IsOpenState, is_overlong_end}
+use Rattle.query_verdicts.specs.AlikeBelow.{HasNoneBelow, IsOpenGraph, IsOpenState}
 use Rattle.query_verdicts.specs.Verdict.{PassesStates}
 use Rattle.query_verdicts.proofs.QuietBelow.{told_of_all, told_with_tail}
 

@@ -2,15 +2,13 @@
 use Rattle.std.specs.Prelude.{◌≡◌, ◌≢◌, ◌≤◌, ℕ, Bool, true, false, List, [], ◌∷◌, ◌++◌, Some, Contains}
 use Rattle.std.specs.List.{list_any}
 use Rattle.dns_data.specs.Name.{Labels, wire_octets}
+use Rattle.graph_form.specs.EndFaults.{is_overlong_end}
 use Rattle.graph_form.specs.Graph.{PlainGraph}
-use Rattle.graph_form.specs.declared.node.Branch.{Branch}
-use Rattle.graph_form.specs.declared.node.Branch.TheVariants.{Go, End}
 use Rattle.graph_form.specs.declared.node.Node.{Node}
 use Rattle.net_model.specs.declared.config.Config.{Config}
 use Rattle.net_model.specs.declared.config.Zone.{Zone}
 use Rattle.net_model.specs.declared.walk.State.{State}
 use Rattle.net_model.specs.Nearest.{nearest_of}
-use Rattle.net_model.specs.Tails.{is_overlong}
 use Rattle.net_model.specs.Zone.{exists_in}
 use Rattle.straight_walks.specs.Straight.{NoOriginBelow}
 use Rattle.query_verdicts.specs.Queries.{WalksLike, limited_to}
@@ -53,11 +51,6 @@ pub record IsOpenState (config : Config) (label : List ℕ) (state : State) (mos
   pub few : wire_octets above ≤ most
   pub no_origin : NoOriginBelow config above
   pub no_name : (zone : Zone) → nearest_of config state.server above ≡ Some zone → HasNoneBelow zone above
-
--- the branch ends in a name that is too long
-abbrev pub is_overlong_end : Branch → Bool
-is_overlong_end (Go hop to) = false
-is_overlong_end (End hop leaf) = is_overlong leaf
 
 -- a branch of the node does
 abbrev pub has_overlong : Node → Bool

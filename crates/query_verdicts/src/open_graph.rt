@@ -6,15 +6,16 @@ ghost use Rattle.dns_data.specs.Name.{is_prefix};
 ghost use Rattle.net_model.specs.Nearest.{nearest_of};
 ghost use Rattle.net_model.specs.declared.config.Config.{Config};
 ghost use Rattle.net_model.specs.declared.config.Zone.{Zone};
-ghost use Rattle.query_verdicts.specs.AlikeBelow.{HasNoneBelow, IsAboveLabel, IsOpenGraph, IsOpenNode, IsOpenState, has_overlong, is_overlong_end};
+ghost use Rattle.query_verdicts.specs.AlikeBelow.{HasNoneBelow, IsAboveLabel, IsOpenGraph, IsOpenNode, IsOpenState, has_overlong};
+ghost use Rattle.graph_form.specs.EndFaults.{is_overlong_end};
 ghost use Rattle.query_verdicts.specs.Learnt.{IsRightLearnt};
 ghost use Rattle.straight_walks.specs.Straight.{NoOriginBelow};
 
 use crate::learnt::Learnt;
 use crate::queries::Queries;
 use dns_data::{JoinFault, Label, Name, NoMemory};
-use graph_form::{Arm, Branch, Graph, Node};
-use net_model::{Leaf, State};
+use graph_form::{Arm, Graph, Node, is_overlong_end};
+use net_model::State;
 use std::alloc::Global;
 use straight_walks::straight_ends;
 use zone_lookup::Hosts;
@@ -186,14 +187,4 @@ fn arm_overlong(arm: &Arm) -> bool
         .items()
         .iter()
         .any(|branch| is_overlong_end(branch))
-}
-
-/// Whether the branch does.
-fn is_overlong_end(branch: &Branch) -> bool
-    ensures { result ≡ is_overlong_end branch.now }
-{
-    match branch {
-        Branch::End { leaf, .. } => matches!(leaf.get(), Leaf::Overlong(_)),
-        Branch::Go { .. } => false,
-    }
 }

@@ -9,6 +9,7 @@ use Rattle.dns_data.specs.RrType.{types}
 use Rattle.dns_data.specs.declared.rr_type.RrType.{RrType}
 use Rattle.dns_data.proofs.Membership.{none_in_nil, has_first, has_later, first_or_later, flat_map_has, from_flat_map}
 use Rattle.dns_data.proofs.Searches.{each_of_all, from_any, any_has, any_none}
+use Rattle.graph_form.specs.EndFaults.{is_overlong_end}
 use Rattle.graph_form.specs.FirstPath.{answer_eq}
 use Rattle.graph_form.specs.Graph.{HasBranch, PlainGraph, branches_of}
 use Rattle.graph_form.specs.GraphOf.{IsExactIn, IsGraphOf}
@@ -28,7 +29,7 @@ use Rattle.net_model.specs.declared.walk.Leaf.{Leaf}
 use Rattle.net_model.specs.declared.walk.Leaf.TheVariants.{Overlong}
 use Rattle.net_model.specs.declared.walk.Walk.{Walk}
 use Rattle.walk_laws.specs.Outcome.{HasOutcome, outcome_of}
-use Rattle.same_answers.specs.Ends.{branch_leaves, branch_overlong, leaves_of, graph_overlong, is_bounded, node_leaves, node_overlong, outcome_eq, are_within}
+use Rattle.same_answers.specs.Ends.{branch_leaves, leaves_of, graph_overlong, is_bounded, node_leaves, node_overlong, outcome_eq, are_within}
 
 -- what holds of each item holds of all
 pub all_have : {X : Type 0} (test : X → Bool) (xs : List X) → ((x : X) → Contains xs x → test x ≡ true) → list_all test xs ≡ true
@@ -65,7 +66,7 @@ any_given f test of_all agree (x ∷ xs) =
     ap (λ (b : Bool). b || list_any of_all xs) (agree x)
     ∙ (ap (λ (b : Bool). list_any test (f x) || b) (any_given f test of_all agree xs) ∙ sym (list_any-append test (f x) (flat_map f xs)))
 
-branch_by_ends : (branch : Branch) → branch_overlong branch ≡ list_any is_overlong (branch_leaves branch)
+branch_by_ends : (branch : Branch) → is_overlong_end branch ≡ list_any is_overlong (branch_leaves branch)
 branch_by_ends (Go hop to) = refl
 branch_by_ends (End hop leaf) = sym (or-false (is_overlong leaf))
 
@@ -73,7 +74,7 @@ branch_by_ends (End hop leaf) = sym (or-false (is_overlong leaf))
 overlong_by_ends : (graph : PlainGraph) (rtype : RrType) → graph_overlong graph rtype ≡ list_any is_overlong (leaves_of graph rtype)
 overlong_by_ends graph rtype =
     any_given (node_leaves rtype) is_overlong (node_overlong rtype)
-    (λ node. any_given branch_leaves is_overlong branch_overlong branch_by_ends (branches_of node rtype)) graph.nodes
+    (λ node. any_given branch_leaves is_overlong is_overlong_end branch_by_ends (branches_of node rtype)) graph.nodes
 
 module _ (setting : Setting) (query : Labels) (graph : PlainGraph) (is : IsGraphOf setting query graph) (exact : IsExactIn setting query graph) (rtype : RrType) where
   -- each walk of the query ends in one of the graph's ends

@@ -1,17 +1,17 @@
 -- The ends of the graph of a query's walks, and how those of two graphs are compared: for the contracts of inner calls
 -- alone.
-use Rattle.std.specs.Prelude.{Bool, false, ◌&&◌, not, List, [], ◌∷◌, if◌then◌else◌}
+use Rattle.std.specs.Prelude.{Bool, ◌&&◌, not, List, [], ◌∷◌, if◌then◌else◌}
 use Rattle.std.specs.List.{find, flat_map, list_all, list_any}
 use Rattle.std.specs.Option.{option_map_or}
 use Rattle.dns_data.specs.RrType.{types}
 use Rattle.dns_data.specs.declared.rr_type.RrType.{RrType}
+use Rattle.graph_form.specs.EndFaults.{is_overlong_end}
 use Rattle.graph_form.specs.FirstPath.{answer_eq}
 use Rattle.graph_form.specs.Graph.{PlainGraph, branches_of}
 use Rattle.graph_form.specs.declared.node.Branch.{Branch}
 use Rattle.graph_form.specs.declared.node.Branch.TheVariants.{Go, End}
 use Rattle.graph_form.specs.declared.node.Node.{Node}
 use Rattle.net_model.specs.Shown.{is_authoritative}
-use Rattle.net_model.specs.Tails.{is_overlong}
 use Rattle.net_model.specs.declared.walk.Leaf.{Leaf}
 use Rattle.same_answers.specs.declared.verdict.PairEnd.{PairEnd}
 use Rattle.same_answers.specs.declared.verdict.PairEnd.TheVariants.{Equal, Apart, Unbounded}
@@ -29,14 +29,9 @@ node_leaves rtype node = flat_map branch_leaves (branches_of node rtype)
 abbrev pub leaves_of : PlainGraph → RrType → List Leaf
 leaves_of graph rtype = flat_map (node_leaves rtype) graph.nodes
 
--- the branch ends in a name of more than 255 octets
-abbrev pub branch_overlong : Branch → Bool
-branch_overlong (Go hop to) = false
-branch_overlong (End hop leaf) = is_overlong leaf
-
 -- a branch of the node with the type ends in a name of more than 255 octets
 abbrev pub node_overlong : RrType → Node → Bool
-node_overlong rtype node = list_any branch_overlong (branches_of node rtype)
+node_overlong rtype node = list_any is_overlong_end (branches_of node rtype)
 
 -- a branch of some node with the type ends in a name of more than 255 octets
 abbrev pub graph_overlong : PlainGraph → RrType → Bool

@@ -1,10 +1,10 @@
 //! The ends of the graph of a query's walks.
 
 ghost use Rattle.std.specs.Prelude.{◌≡◌, ◌++◌, map, IfOk, OnOk};
-ghost use Rattle.same_answers.specs.Ends.{branch_leaves, branch_overlong, leaves_of, graph_overlong, is_bounded, node_leaves, node_overlong};
+ghost use Rattle.same_answers.specs.Ends.{branch_leaves, leaves_of, graph_overlong, is_bounded, node_leaves, node_overlong};
 
 use dns_data::{NoMemory, RrType};
-use graph_form::{Branch, Graph, Node};
+use graph_form::{Branch, Graph, Node, is_overlong_end};
 use net_model::Leaf;
 use std::alloc::Global;
 
@@ -71,14 +71,4 @@ fn node_ends_overlong(node: &Node, rtype: RrType) -> bool
     node.branches(rtype)
         .iter()
         .any(|branch| is_overlong_end(branch))
-}
-
-/// Whether the branch ends in a name of more than 255 octets.
-fn is_overlong_end(branch: &Branch) -> bool
-    ensures { result ≡ branch_overlong branch.now }
-{
-    match branch {
-        Branch::End { leaf, .. } => matches!(leaf.get(), Leaf::Overlong(_)),
-        Branch::Go { .. } => false,
-    }
 }
