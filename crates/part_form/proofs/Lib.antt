@@ -1,5 +1,4 @@
 pub mod FirstsTold
-pub mod Following
 pub mod PlacesRead
 pub mod ReadBack
 pub mod Refusals

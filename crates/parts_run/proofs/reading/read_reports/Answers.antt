@@ -7,7 +7,7 @@ use Rattle.config_load.proofs.Follows.{Follows-same, Follows-then}
 use Rattle.config_load.proofs.Sources.{ReadsFor-none, ReadsFor-then, HasAnswered-looked, HasAnswered-then, HasAnswered-wanting}
 use Rattle.part_form.specs.Stated.{PartStated, told_part}
 use Rattle.part_form.specs.declared.stated.StatedPart.{StatedPart}
-use Rattle.part_form.proofs.Following.{left_at}
+use Rattle.report_json.proofs.Sending.{left_at}
 use Rattle.parts_run.specs.Answered.{answered}
 use Rattle.parts_run.specs.Reading.{reports_read}
 use Rattle.parts_run.proofs.ReportsRead.{fault_answered, goes_on, none_left, read_for_all, stopped}
