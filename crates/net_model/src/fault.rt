@@ -1,11 +1,12 @@
 //! The faults that a report lists.
 
-ghost use Rattle.std.specs.Prelude.{◌≡◌};
+ghost use Rattle.std.specs.Prelude.{◌≡◌, IfOk};
 ghost use Rattle.net_model.specs.FaultOrder.{kind_number, fault_place_cmp, fault_cmp};
 
 use crate::class::Class;
 use crate::place::{Cut, Place};
-use dns_data::RrType;
+use dns_data::{NoMemory, RrType};
+use std::alloc::Global;
 use std::cmp::Ordering;
 
 /// A kind of fault with its place, in the order of the report.
@@ -34,6 +35,24 @@ pub enum Fault {
 }
 
 impl Fault {
+    /// An equal fault.
+    pub fn copy(&self, alloc: Global) -> Result<Fault, NoMemory>
+        ensures { IfOk result (λ copy. copy ≡ self.now) }
+    {
+        match self {
+            Fault::Lame(cut) => Ok(Fault::Lame(cut.copy(alloc)?)),
+            Fault::Differs(cut) => Ok(Fault::Differs(cut.copy(alloc)?)),
+            Fault::NoGlue(cut) => Ok(Fault::NoGlue(cut.copy(alloc)?)),
+            Fault::GlueDiffers(cut) => Ok(Fault::GlueDiffers(cut.copy(alloc)?)),
+            Fault::Cyclic(cut) => Ok(Fault::Cyclic(cut.copy(alloc)?)),
+            Fault::Limit(place) => Ok(Fault::Limit(place.copy(alloc)?)),
+            Fault::Blackhole(place) => Ok(Fault::Blackhole(place.copy(alloc)?)),
+            Fault::Answers(class, rtype) => Ok(Fault::Answers(class.copy(alloc)?, *rtype)),
+            Fault::Overlong(place) => Ok(Fault::Overlong(place.copy(alloc)?)),
+            Fault::NoAddress(cut) => Ok(Fault::NoAddress(cut.copy(alloc)?)),
+        }
+    }
+
     /// How the fault stands to the other in a report: by kind, then by the fields of the place.
     pub fn compare(&self, other: &Fault) -> Ordering
         ensures { result ≡ fault_cmp self.now other.now }

@@ -6,7 +6,6 @@ ghost use Rattle.query_verdicts.specs.AlikeBelow.{AreAlikeBelow, IsFitBelow};
 ghost use Rattle.query_verdicts.specs.Queries.{WalksLike, limited_to};
 ghost use Rattle.query_verdicts.specs.Verdict.{IsClassVerdict};
 
-use crate::first_classes::fault_copy;
 use crate::verdict::ClassVerdict;
 use dns_data::{List, Name, NoMemory};
 use graph_form::Seen;
@@ -101,7 +100,7 @@ fn shown_copy(alloc: Global, shown: &[Seen]) -> Result<List<Seen>, NoMemory>
 fn seen_copy(alloc: Global, seen: &Seen) -> Result<Seen, NoMemory>
     ensures { IfOk result (λ copy. copy ≡ seen.now) }
 {
-    let fault = fault_copy(alloc, &seen.fault)?;
+    let fault = seen.fault.copy(alloc)?;
     let rtype = seen.rtype;
     Ok(Seen { fault, rtype })
 }

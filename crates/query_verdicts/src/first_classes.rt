@@ -244,28 +244,10 @@ fn copied(alloc: Global, class: &Class, seen: &Seen) -> Result<ClassFault, NoMem
     ensures { IfOk result (λ one. one ≡ class_fault class.now seen.now) }
 {
     let class = class.copy(alloc)?;
-    let fault = fault_copy(alloc, &seen.fault)?;
+    let fault = seen.fault.copy(alloc)?;
     let rtype = seen.rtype;
     Ok(ClassFault {
         seen: Seen { fault, rtype },
         class,
     })
-}
-
-/// An equal fault.
-pub(crate) fn fault_copy(alloc: Global, fault: &Fault) -> Result<Fault, NoMemory>
-    ensures { IfOk result (λ copy. copy ≡ fault.now) }
-{
-    match fault {
-        Fault::Lame(cut) => Ok(Fault::Lame(cut.copy(alloc)?)),
-        Fault::Differs(cut) => Ok(Fault::Differs(cut.copy(alloc)?)),
-        Fault::NoGlue(cut) => Ok(Fault::NoGlue(cut.copy(alloc)?)),
-        Fault::GlueDiffers(cut) => Ok(Fault::GlueDiffers(cut.copy(alloc)?)),
-        Fault::Cyclic(cut) => Ok(Fault::Cyclic(cut.copy(alloc)?)),
-        Fault::Limit(place) => Ok(Fault::Limit(place.copy(alloc)?)),
-        Fault::Blackhole(place) => Ok(Fault::Blackhole(place.copy(alloc)?)),
-        Fault::Answers(class, rtype) => Ok(Fault::Answers(class.copy(alloc)?, *rtype)),
-        Fault::Overlong(place) => Ok(Fault::Overlong(place.copy(alloc)?)),
-        Fault::NoAddress(cut) => Ok(Fault::NoAddress(cut.copy(alloc)?)),
-    }
 }
