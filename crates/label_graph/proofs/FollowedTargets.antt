@@ -14,7 +14,7 @@ use Rattle.label_graph.specs.Pairs.{redirection}
 use Rattle.label_graph.specs.Rows.{RowHas, total}
 use Rattle.label_graph.specs.Targets.{AreTrue, HasTarget, IsFollowed, ArePassed}
 use Rattle.label_graph.proofs.FoundPlaces.{found_reads}
-use Rattle.label_graph.proofs.NamePlaces.{one_place}
+use Rattle.name_table.proofs.Tables.{one_place}
 use Rattle.label_graph.proofs.PutPlaces.{few_places, row_of_set, total_set}
 use Rattle.label_graph.proofs.Readings.{owner_reads}
 

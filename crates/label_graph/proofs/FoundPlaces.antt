@@ -11,7 +11,7 @@ use Rattle.label_graph.specs.Targets.{LeadsAlong, IsFrom, IsRootPlace, IsStepFro
 use Rattle.label_graph.proofs.LedPlaces.{from_then, from_itself, from_row}
 use Rattle.label_graph.proofs.LiveNames.{IsLive, all_known}
 use Rattle.label_graph.proofs.Readings.{reads_below, reads_then, reads_itself}
-use Rattle.label_graph.proofs.TargetLinks.{place_among}
+use Rattle.name_table.proofs.Tables.{place_among}
 
 module _ (names : List Labels) (rows : List (List ℕ)) where
   -- what is found from some places is found from more

@@ -14,8 +14,7 @@ use Rattle.label_graph.specs.Targets.{IsFrom, IsStep}
 use Rattle.label_graph.proofs.FoundPlaces.{ReadsTo, from_true, found_reads, row_has, all_found}
 use Rattle.label_graph.proofs.LedPlaces.{from_itself, from_row}
 use Rattle.label_graph.proofs.LiveNames.{IsLive, Closed, Stepped, IsRoot, live_steps, steps_live, live_at_root, root_live, next_is_named, named_next}
-use Rattle.label_graph.proofs.NamePlaces.{one_place}
-use Rattle.label_graph.proofs.TargetLinks.{place_among, among_place}
+use Rattle.name_table.proofs.Tables.{one_place, place_among, among_place}
 
 module _ (names : List Labels) (pairs : List Pair) (reads : List (List ℕ)) (is : IsGraph names pairs reads) where
   abbrev ground : Ground

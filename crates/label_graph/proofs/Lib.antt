@@ -12,10 +12,8 @@ pub mod LiveSets
 pub mod NewFronts
 pub mod NextNames
 pub mod OrderedNames
-pub mod Parents
 pub mod Passing
 pub mod PutPlaces
 pub mod Readings
-pub mod RowsOfChildren
 pub mod StandardFacts
 pub mod TargetLinks

@@ -12,7 +12,7 @@ use Rattle.label_graph.specs.Pairs.{ground_with}
 use Rattle.label_graph.specs.Targets.{IsFrom, IsStep}
 use Rattle.label_graph.proofs.GraphSets.{root_set, step_set}
 use Rattle.label_graph.proofs.LedPlaces.{can_be_closed}
-use Rattle.label_graph.proofs.TargetLinks.{place_among}
+use Rattle.name_table.proofs.Tables.{place_among}
 
 module _ (names : List Labels) (pairs : List Pair) (reads : List (List ℕ)) (is : IsGraph names pairs reads) where
   closed_over : (places : List ℕ) → ((place : ℕ) → Contains places place → place < length names)

@@ -1,20 +1,18 @@
 -- The labels below a live set, each with what is live there.
-use Rattle.std.proofs.Common.{◌≡◌, ◌∙◌, ℕ, ◌+◌, ◌<◌, List, [], ◌∷◌, ◌++◌, length, map, get_or, All, Contains, refl, sym, ap, subst, inl, inr, arith}
+use Rattle.std.proofs.Common.{◌≡◌, ◌∙◌, ℕ, ◌<◌, List, [], ◌∷◌, ◌++◌, length, map, get_or, All, Contains, refl, sym, arith}
 use Rattle.std.specs.Prelude.{◌↔◌}
-use Rattle.std.proofs.Math.Seq.{get_or-append_seam}
-use Rattle.std.proofs.lemmas.Bool.{cases_lt}
-use Rattle.std.proofs.lemmas.List.{map-append, length-map, get_or_append_left}
+use Rattle.std.proofs.lemmas.List.{map-append}
 use Rattle.dns_data.specs.Name.{Labels, AreInOrder}
 use Rattle.dns_data.proofs.Membership.{all_from_contains}
 use Rattle.label_graph.specs.declared.next.NextName.{NextName}
 use Rattle.label_graph.specs.declared.pair.Pair.{Pair}
 use Rattle.label_graph.specs.Graphs.{SomeItem, IsGraph, IsLiveBelow}
 use Rattle.label_graph.specs.LiveSet.{IsLiveSet, name_at}
-use Rattle.label_graph.specs.NameTree.{IsNextBelow}
+use Rattle.name_table.specs.Table.{IsNextBelow}
 use Rattle.label_graph.specs.Pairs.{ground_with}
 use Rattle.label_graph.specs.Targets.{IsFrom, IsStep}
 use Rattle.label_graph.proofs.GraphSets.{step_set}
-use Rattle.label_graph.proofs.NamePlaces.{one_place}
+use Rattle.name_table.proofs.Tables.{one_place}
 use Rattle.label_graph.proofs.Passing.{one_iff, single_iff}
 
 -- a list of one item has its first
@@ -30,33 +28,6 @@ labels_of nexts = map (λ next. next.label) nexts
 -- the labels of names one below with one more are theirs and its label
 pub labels_more : (nexts : List NextName) (next : NextName) → labels_of (nexts ++ next ∷ []) ≡ labels_of nexts ++ next.label ∷ []
 labels_more nexts next = map-append (λ (n : NextName). n.label) nexts (next ∷ [])
-
-module _ (names : List Labels) (place : ℕ) (row : List ℕ) where
-  -- the first so many names of the row have these last labels, one after another
-  abbrev pub AreLasts : List NextName → ℕ → Type 0
-  AreLasts nexts count =
-      (k : ℕ) → k < count → name_at names (get_or row k 0) ≡ name_at names place ++ get_or (labels_of nexts) k [] ∷ []
-
-  -- one name more of the row has the next last label
-  pub lasts_more : (nexts : List NextName) (next : NextName) (count : ℕ) → length nexts ≡ count → AreLasts nexts count
-      → name_at names (get_or row count 0) ≡ name_at names place ++ next.label ∷ [] → AreLasts (nexts ++ next ∷ []) (count + 1)
-  lasts_more nexts next count len are at k low =
-      elim (cases_lt k count) [
-        | inl before ↦
-            are k before
-            ∙ ap (λ (l : List ℕ). name_at names place ++ l ∷ [])
-            (sym (ap (λ (ls : List (List ℕ)). get_or ls k []) (labels_more nexts next)
-            ∙ get_or_append_left (labels_of nexts) (next.label ∷ []) [] k (omega (arith, before, len, length-map nexts (λ (n : NextName). n.label)))))
-        | inr last ↦ (
-            let here : length (labels_of nexts) ≡ k = omega (arith, last, low, len, length-map nexts (λ (n : NextName). n.label)) in
-            let same : count ≡ k = omega (arith, last, low) in
-            let label : get_or (labels_of (nexts ++ next ∷ [])) k [] ≡ next.label =
-            ap (λ (ls : List (List ℕ)). get_or ls k []) (labels_more nexts next)
-            ∙ subst (λ (i : ℕ). get_or (labels_of nexts ++ next.label ∷ []) i [] ≡ next.label) here (get_or-append_seam (labels_of nexts) next.label [] []) in
-            subst (λ (i : ℕ). name_at names (get_or row i 0) ≡ name_at names place ++ next.label ∷ []) same at
-            ∙ ap (λ (l : List ℕ). name_at names place ++ l ∷ []) (sym label)
-            )
-      ]
 
 -- places that are steps have places
 pub steps_within : (names : List Labels) (label : List ℕ) (live places : List ℕ) → ((other : ℕ) → Contains places other ↔ SomeItem (IsStep names label other) live)

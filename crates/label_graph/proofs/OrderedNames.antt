@@ -1,16 +1,20 @@
--- Names put in order, each once.
-use Rattle.std.proofs.Common.{List, [], ◌++◌, Contains}
+-- Names put in order, each once, and the table of names that have their prefixes.
+use Rattle.std.proofs.Common.{◌≡◌, true, List, [], ◌∷◌, ◌++◌, Contains, sym, refl, subst, arith}
 use Rattle.std.specs.Prelude.{◌↔◌}
 use Rattle.std.specs.Cmp.Lexicographic.{nat_list_eq_equiv, lists_equiv, lists_ties, texts_ties}
 use Rattle.dns_data.specs.Label.{label_cmp}
-use Rattle.dns_data.specs.Name.{Labels, name_cmp, name_eq, AreInOrder}
-use Rattle.dns_data.proofs.NameOrder.{names_total}
+use Rattle.dns_data.specs.Name.{Labels, is_prefix, name_cmp, name_eq, AreInOrder}
+use Rattle.dns_data.proofs.NameFronts.{is_prefix_told}
+use Rattle.dns_data.proofs.NameOrder.{UpTo, names_total}
 use Rattle.dns_data.proofs.Names.{name_eq_decides}
 use Rattle.net_model.specs.Reading.{Ground}
 use Rattle.label_graph.specs.declared.pair.Pair.{Pair}
 use Rattle.label_graph.specs.LiveSet.{HavePrefixes, IsClosed}
 use Rattle.label_graph.specs.Pairs.{ground_with, AreSame}
 use Rattle.label_graph.specs.Sorting.{IsInOrderOf}
+use Rattle.label_graph.specs.Targets.{IsRootPlace}
+use Rattle.name_table.specs.Table.{name_at, IsTable}
+use Rattle.name_table.proofs.Tables.{place_among, up_to_later}
 use Rattle.label_graph.proofs.InOrder.{once_in_order, in_order_has, from_in_order}
 
 -- grounds that have what a third one has have the same
@@ -58,3 +62,26 @@ module _ (items list : List Labels) (is : IsInOrderOf name_cmp name_eq items lis
   -- the ground of names that were put in order is the same
   pub ground_same : (pairs : List Pair) → AreSame (ground_with list pairs) (ground_with items pairs)
   ground_same pairs = record { names = names_same; redirections = λ redirection. (λ has. has, λ has. has) }
+
+module _ (names : List Labels) (order : AreInOrder names) (closed : HavePrefixes names) where
+  -- the root stands first
+  pub root_first : IsRootPlace names 0
+  root_first =
+      let (k, inside, at) = place_among names [] closed.root in
+      (omega (arith, inside), none_before (name_at names 0) (subst (UpTo (name_at names 0)) at (up_to_later names order 0 k (omega arith) inside)))
+    where
+      none_before : (name : Labels) → UpTo name [] → name ≡ []
+      none_before [] up_to = refl
+      none_before (label ∷ name) up_to = cc
+
+  -- the names are a table
+  pub closed_table : IsTable names
+  closed_table =
+      record {
+        ordered = order;
+        some = root_first.0;
+        below = λ k within.
+            subst (λ (root : Labels). is_prefix root (name_at names k) ≡ true) (sym root_first.1)
+            (is_prefix_told [] (name_at names k) (name_at names k, refl));
+        parents = λ above label inside has. closed.prefixes above (label ∷ []) has;
+      }

@@ -1,10 +1,9 @@
 pub use Rattle.dns_data.specs.Label
 pub use Rattle.dns_data.specs.Name
+pub use Rattle.name_table.specs.Table
 pub use Rattle.net_model.specs.Reading
-pub mod ChildRows
 pub mod Graphs
 pub mod LiveSet
-pub mod NameTree
 pub mod Pairs
 pub mod Places
 pub mod Rows

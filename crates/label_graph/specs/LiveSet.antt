@@ -1,7 +1,8 @@
 -- The live set of a name: the base names to which it reads on (RFC 6672 section 2.2).
-use Rattle.std.specs.Prelude.{◌↔◌, ℕ, ◌<◌, List, [], ◌++◌, length, slice_index_or, Contains, All}
+use Rattle.std.specs.Prelude.{◌↔◌, ℕ, ◌<◌, List, [], ◌++◌, length, Contains, All}
 use Rattle.dns_data.specs.Name.{Labels}
 use Rattle.net_model.specs.Reading.{Redirection, Ground, ReadsOnTo}
+pub use Rattle.name_table.specs.Table.{name_at}
 
 -- the names have the root, and the prefixes of each of them
 pub record HavePrefixes (names : List Labels) : Type 0 where
@@ -12,10 +13,6 @@ pub record HavePrefixes (names : List Labels) : Type 0 where
 pub record IsClosed (ground : Ground) : Type 0 where
   pub names : HavePrefixes ground.names
   pub redirected : (redirection : Redirection) → Contains ground.redirections redirection → Contains ground.names redirection.owner
-
--- the name at a place
-abbrev pub name_at : List Labels → ℕ → Labels
-name_at names place = slice_index_or names place []
 
 -- the places are those of the base names to which the name reads on
 pub record IsLiveSet (ground : Ground) (name : Labels) (places : List ℕ) : Type 0 where

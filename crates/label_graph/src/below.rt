@@ -7,15 +7,15 @@ ghost use Rattle.label_graph.specs.Graphs.{AreLabelsBelow, HasChild, SomeItem};
 ghost use Rattle.label_graph.specs.Targets.{IsStep};
 
 use crate::live::LiveSet;
-use crate::names::NameTree;
 use crate::sorting::in_order;
 use dns_data::{Label, NoMemory};
+use name_table::NameTable;
 use std::alloc::Global;
 
 /// The places one label below these.
 pub(crate) fn step(
     alloc: Global,
-    base: &NameTree,
+    base: &NameTable,
     places: &[usize],
     label: &[u8],
 ) -> Result<LiveSet, NoMemory>
@@ -31,7 +31,7 @@ pub(crate) fn step(
 /// The place one label below this one, if there is one.
 fn step_of_one(
     alloc: Global,
-    base: &NameTree,
+    base: &NameTable,
     place: usize,
     label: &[u8],
 ) -> Result<LiveSet, NoMemory>
@@ -47,7 +47,7 @@ fn step_of_one(
 /// The places one label below each of these.
 fn steps(
     alloc: Global,
-    base: &NameTree,
+    base: &NameTable,
     places: &[usize],
     label: &[u8],
 ) -> Result<LiveSet, NoMemory>
@@ -63,7 +63,7 @@ fn steps(
 
 /// Puts the place one label below this one at the end, if there is one.
 fn put_step(
-    base: &NameTree,
+    base: &NameTable,
     place: usize,
     label: &[u8],
     next: &mut Vec<usize>,
@@ -79,7 +79,7 @@ fn put_step(
 }
 
 /// Whether one of the places has this label below it.
-pub(crate) fn has_step(base: &NameTree, places: &[usize], label: &[u8]) -> bool
+pub(crate) fn has_step(base: &NameTable, places: &[usize], label: &[u8]) -> bool
     requires { All (λ place. place < length base.now) places.now }
     ensures { IsTrue result ↔ SomeItem (HasChild base.now label.now) places.now }
 {
@@ -92,7 +92,7 @@ pub(crate) fn has_step(base: &NameTree, places: &[usize], label: &[u8]) -> bool
 }
 
 /// Whether the place has this label below it.
-fn has_child(base: &NameTree, place: usize, label: &[u8]) -> bool
+fn has_child(base: &NameTable, place: usize, label: &[u8]) -> bool
     requires { place < length base.now }
     ensures { IsTrue result ↔ HasChild base.now label.now place }
 {
@@ -105,7 +105,7 @@ fn has_child(base: &NameTree, place: usize, label: &[u8]) -> bool
 /// The labels below these places, put in order, each once.
 pub(crate) fn labels_below(
     alloc: Global,
-    base: &NameTree,
+    base: &NameTable,
     places: &[usize],
 ) -> Result<Vec<Label>, NoMemory>
     requires { All (λ place. place < length base.now) places.now }
@@ -122,14 +122,15 @@ pub(crate) fn labels_below(
 /// Puts the labels below a place, in order, at the end.
 fn put_labels(
     alloc: Global,
-    base: &NameTree,
+    base: &NameTable,
     place: usize,
     labels: &mut Vec<Label>,
 ) -> Result<(), NoMemory>
     requires { place < length base.now }
     ensures { OnOk result ((more : List (List ℕ)) × (labels.new.items ≡ labels.old.items ++ more) × AreLabelsBelow base.now place more) }
 {
-    for other in base.below(place) {
+    let children = base.children(alloc, place)?;
+    for other in children.as_slice() {
         labels.push(Label::with_octets(alloc, base.last_label(place, *other))?)?;
     }
     Ok(())

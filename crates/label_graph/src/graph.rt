@@ -12,19 +12,19 @@ use crate::below::{has_step, step};
 use crate::closing::close;
 use crate::following::reads_of;
 use crate::live::LiveSet;
-use crate::names::NameTree;
 use crate::next::{NextName, next_names};
 use crate::pair::{Pair, copies};
 use crate::rows::Rows;
 use crate::sorting::in_order;
 use dns_data::{Label, List, Name, NoMemory};
+use name_table::NameTable;
 use std::alloc::Global;
 use std::marker::Model;
 
 /// The graph. Contracts see it as its base names, in order, and its redirections.
 #[derive(Drop)]
 pub struct LabelGraph {
-    base: NameTree,
+    base: NameTable,
     dnames: List<Pair>,
     reads: Rows,
 }
@@ -59,7 +59,7 @@ impl LabelGraph {
         ensures same { IfOk result (λ graph. AreSame graph (ground_with names.items dnames.now)) }
         ensures order { IfOk result (λ graph. AreInOrder graph.names) }
     {
-        let base = NameTree::of_ordered(alloc, names)?;
+        let base = NameTable::of(alloc, names)?;
         let reads = reads_of(alloc, &base, dnames)?;
         let dnames = copies(alloc, dnames)?;
         Ok(LabelGraph {
@@ -73,9 +73,8 @@ impl LabelGraph {
     pub fn start(&self, alloc: Global) -> Result<LiveSet, NoMemory>
         ensures { IfOk result (IsLiveSet self.now []) }
     {
-        let root = self.base.root();
-        // Named, since the proof speaks of the live set that comes where memory suffices.
-        let live = close(alloc, &self.reads, LiveSet::one(root))?;
+        // The root stands first. Named, since the proof speaks of the live set that comes where memory suffices.
+        let live = close(alloc, &self.reads, LiveSet::one(0))?;
         Ok(live)
     }
 

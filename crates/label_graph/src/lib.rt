@@ -6,27 +6,23 @@
 //! a name with that live set, and `next_names` gives all labels that do, with the live sets of the names that they make.
 //!
 //! Costs: `build` sorts the names that it is given: it compares each with the next alone where they stand in order, and
-//! merges runs that do. The names move into the graph as they are. Building finds the name above each name along the
-//! one before it, and puts the names one label below each together in two passes. Then the target of each DNAME record
-//! is followed label by label from the root, and what is found is put down for its owner; since that may let other
-//! targets lead further, this is done again until nothing new is found, mostly once more. Each name has two numbers
-//! beside it: its place among those one label below another, and where those below itself end. Lists behind the last
-//! owner of a DNAME record take no memory. A live set has at most one place where no DNAME record plays a part, and one
-//! of one place takes no memory of its own; a label more costs a binary search among the last labels below each place,
-//! and no more where none of the names found is redirected. Else each place that is found is compared with those found
-//! before it, so a live set of n places costs n times n. The labels below one place are listed in order without a
-//! search or a sort, each with its own live set; those below several are sorted, and looked for.
+//! merges runs that do. The names move into the graph's table as they are, which keeps a number of eight octets for each.
+//! Then the target of each DNAME record is followed label by label from the root, and what is found is put down for its
+//! owner; since that may let other targets lead further, this is done again until nothing new is found, mostly once more.
+//! Lists behind the last owner of a DNAME record take no memory. A live set has at most one place where no DNAME record
+//! plays a part, and one of one place takes no memory of its own; a label more costs a binary search among the names
+//! behind each place, and no more where none of the names found is redirected. Else each place that is found is compared
+//! with those found before it, so a live set of n places costs n times n. The labels below one place are listed in order
+//! without a search for a label or a sort, each with its own live set; those below several are sorted, and looked for.
 #![tactic(auto)]
 
 mod base;
 mod below;
-mod child_rows;
 mod closing;
 mod following;
 mod graph;
 pub mod laws;
 mod live;
-mod names;
 mod next;
 mod pair;
 mod parts;

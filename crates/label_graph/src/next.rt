@@ -4,16 +4,15 @@ ghost use Rattle.std.specs.Prelude.{◌≡◌, ◌↔◌, ◌<◌, ℕ, List, []
 ghost use Rattle.std.specs.declared.cmp.Ordering.TheVariants.{Less};
 ghost use Rattle.dns_data.specs.Label.{label_cmp};
 ghost use Rattle.label_graph.specs.Graphs.{AreLabelsBelow, HasChild, IsLiveBelow, SomeItem};
-ghost use Rattle.label_graph.specs.LiveSet.{name_at};
-ghost use Rattle.label_graph.specs.NameTree.{IsNextBelow};
 ghost use Rattle.label_graph.specs.Rows.{AreInside};
+ghost use Rattle.name_table.specs.Table.{name_at, IsNextBelow};
 
 use crate::below::{labels_below, step};
 use crate::closing::close;
 use crate::live::LiveSet;
-use crate::names::NameTree;
 use crate::rows::Rows;
 use dns_data::{Label, NoMemory};
+use name_table::NameTable;
 use std::alloc::Global;
 
 /// A label that makes a named name below another, and the live set of the name that it makes.
@@ -26,7 +25,7 @@ pub struct NextName {
 /// The labels below these places, in order, each once, with what is live there. Below one place no label is looked for.
 pub(crate) fn next_names(
     alloc: Global,
-    base: &NameTree,
+    base: &NameTable,
     reads: &Rows,
     places: &[usize],
 ) -> Result<Vec<NextName>, NoMemory>
@@ -51,7 +50,7 @@ pub(crate) fn next_names(
 /// The labels below a place, which stand in order there, with what is live there.
 fn next_of_one(
     alloc: Global,
-    base: &NameTree,
+    base: &NameTable,
     reads: &Rows,
     place: usize,
 ) -> Result<Vec<NextName>, NoMemory>
@@ -61,8 +60,9 @@ fn next_of_one(
     ensures labels { IfOk result (λ names. AreLabelsBelow base.now place (map (λ next. next.label) names.items)) }
     ensures live { IfOk result (λ names. All (λ next. IsLiveBelow base.now reads.now (place ∷ []) next.label next.live) names.items) }
 {
-    let mut names = Vec::with_capacity(alloc, base.below(place).len())?;
-    for other in base.below(place) {
+    let children = base.children(alloc, place)?;
+    let mut names = Vec::with_capacity(alloc, children.len())?;
+    for other in children.as_slice() {
         names.push(next_at(alloc, base, reads, place, *other)?)?;
     }
     Ok(names)
@@ -71,7 +71,7 @@ fn next_of_one(
 /// The last label of the name at the second place, which is one label below the one at the first, with what is live there.
 fn next_at(
     alloc: Global,
-    base: &NameTree,
+    base: &NameTable,
     reads: &Rows,
     place: usize,
     other: usize,
@@ -90,7 +90,7 @@ fn next_at(
 /// A label with what is live where it is put below these places.
 fn next_with(
     alloc: Global,
-    base: &NameTree,
+    base: &NameTable,
     reads: &Rows,
     places: &[usize],
     label: &Label,

@@ -15,7 +15,7 @@ use Rattle.net_model.specs.Reading.{Ground, IsNamed, ReadsOnTo}
 use Rattle.net_model.proofs.FirstLabel.{label_of_name, shorter_first}
 use Rattle.label_graph.specs.LiveSet.{IsClosed, IsLiveSet, name_at}
 use Rattle.label_graph.proofs.LiveNames.{prefix_is_named}
-use Rattle.label_graph.proofs.TargetLinks.{place_among, among_place}
+use Rattle.name_table.proofs.Tables.{place_among, among_place}
 use Rattle.query_classes.specs.Children.{HasBelow, IsBelow}
 use Rattle.query_classes.specs.Members.{IsEmptyClass, RepresentsClass}
 

@@ -10,7 +10,7 @@ use Rattle.net_model.proofs.FirstLabel.{first_unnamed}
 use Rattle.net_model.proofs.Naming.{named_among, among_named}
 use Rattle.label_graph.specs.LiveSet.{IsClosed, IsLiveSet, name_at}
 use Rattle.label_graph.proofs.LiveNames.{named_next, next_is_named}
-use Rattle.label_graph.proofs.TargetLinks.{place_among, among_place}
+use Rattle.name_table.proofs.Tables.{place_among, among_place}
 use Rattle.query_classes.proofs.FreeLabels.{last_of, last_of_below}
 
 module _ (ground : Ground) (closed : IsClosed ground) (above : Labels) (live : List ℕ) (of : IsLiveSet ground above live) where

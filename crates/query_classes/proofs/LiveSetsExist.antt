@@ -9,7 +9,7 @@ use Rattle.dns_data.proofs.Membership.{all_from_contains}
 use Rattle.net_model.specs.Reading.{Redirection, Ground}
 use Rattle.label_graph.specs.LiveSet.{IsClosed, IsLiveSet, name_at}
 use Rattle.label_graph.proofs.LiveNames.{IsLive, Closed, Stepped, IsRoot, live_steps, steps_live, live_at_root, root_live}
-use Rattle.label_graph.proofs.TargetLinks.{among_place}
+use Rattle.name_table.proofs.Tables.{among_place}
 use Rattle.query_classes.proofs.Decided.{Decided, turned, both, either, any_of, chosen, among, same_name}
 use Rattle.query_classes.proofs.ReadsDecided.{fronts, front_reads, has_target}
 

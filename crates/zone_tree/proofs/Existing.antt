@@ -1,26 +1,25 @@
 -- The names of a tree are those that exist in its zone.
-use Rattle.std.proofs.Common.{◌≡◌, Bool, true, false, cond, ◌&&◌, List, [], ◌∷◌, ◌++◌, map, Contains, filter, IsPermutation, IsSorted, sym, refl, ap, ◌∙◌, subst, inl, inr, arith}
+use Rattle.std.proofs.Common.{◌≡◌, Bool, true, false, cond, ◌&&◌, List, [], ◌∷◌, ◌++◌, map, get_or, Contains, filter, IsPermutation, IsSorted, sym, refl, ap, ◌∙◌, subst, inl, inr, arith}
 use Rattle.std.specs.List.{list_any}
 use Rattle.std.proofs.lemmas.Bool.{and_parts, and_from, or_cases, or_left, or_right}
+use Rattle.std.proofs.lemmas.List.Elements.{Contains-get_or}
 use Rattle.std.proofs.lemmas.List.Sorted.{IsPermutation-sym, IsPermutation-map, Contains-permutation}
 use Rattle.dns_data.specs.Name.{Labels, name_eq, name_cmp, is_prefix}
 use Rattle.dns_data.specs.declared.rdata.Rr.{Rr}
-use Rattle.net_model.proofs.Descent.{prefix_of_prefix}
+use Rattle.net_model.proofs.Descent.{prefix_exists, prefix_of_prefix}
 use Rattle.net_model.specs.declared.config.Zone.{Zone}
 use Rattle.net_model.specs.Zone.{exists_in}
 use Rattle.zone_tree.specs.Names.{tree_after, AreExisting}
 use Rattle.zone_tree.specs.Owners.{AreByOwner}
 use Rattle.dns_data.proofs.Membership.{has_first, has_later, first_or_later, filter_has, from_filter, map_has, from_map}
 use Rattle.dns_data.proofs.NameFronts.{Begins, is_prefix_tells, is_prefix_told, begins_itself, two_fronts}
-use Rattle.dns_data.proofs.NameOrder.{UpTo, Before, prefix_up_to, before_up_to, names_total, pairs_from_rising}
+use Rattle.dns_data.proofs.NameOrder.{Before, before_up_to, names_total, pairs_from_rising}
 use Rattle.dns_data.proofs.Names.{name_eq_decides}
 use Rattle.dns_data.proofs.OrderedLists.{never_before_itself}
 use Rattle.dns_data.proofs.Searches.{from_any, any_has}
+use Rattle.name_table.specs.Table.{IsTable}
+use Rattle.name_table.proofs.Tables.{begins_up_to}
 use Rattle.zone_tree.proofs.SortedTree.{InOrder, in_order, tree_stands_after, rising_after, tree_after_has, from_tree_after, both_up_to}
-
--- a name doesn't stand behind one that it begins
-pub begins_up_to : (a b : Labels) → Begins a b → UpTo a b
-begins_up_to a b (x, e) = subst (UpTo a) e (prefix_up_to a x)
 
 -- names that begin each other are equal
 pub begin_each_other : (a b : Labels) → Begins a b → Begins b a → a ≡ b
@@ -131,6 +130,22 @@ existing_within zone name exists =
           subst (λ (x : Labels). is_prefix zone.origin x ≡ true) (sym same) (begins_itself zone.origin))
       | inr beneath ↦ (and_parts (is_prefix zone.origin name) (list_any (λ rr. is_prefix name rr.owner) zone.rrs) beneath).0
     ]
+
+-- the existing names are a table: with each that has a label below the origin, the name one label above it exists
+pub existing_table : (zone : Zone) (names : List Labels) → AreExisting zone names → IsTable names
+existing_table zone names existing =
+    record {
+      ordered = existing.ordered;
+      some = existing.some;
+      below = λ k within.
+          ap (λ (origin : Labels). is_prefix origin (get_or names k [])) existing.origin_first
+          ∙ existing_within zone (get_or names k []) ((existing.all (get_or names k [])).0 (Contains-get_or names k [] within));
+      parents = λ above label inside has.
+          (existing.all above).1
+          (prefix_exists zone above (label ∷ [])
+          (ap (λ (origin : Labels). is_prefix origin above) (sym existing.origin_first) ∙ inside)
+          ((existing.all (above ++ label ∷ [])).0 has));
+    }
 
 -- an owner at or below the origin exists
 pub owner_exists : (zone : Zone) (rr : Rr) → Contains zone.rrs rr → is_prefix zone.origin rr.owner ≡ true → exists_in zone rr.owner ≡ true

@@ -17,7 +17,7 @@ use Rattle.dns_data.proofs.Searches.{from_any, filter_none, filter_same}
 use Rattle.zone_tree.specs.KeyedRecords.{HasKey, keyed_cmp}
 use Rattle.zone_tree.specs.Records.{data_of}
 use Rattle.zone_tree.specs.declared.owners.KeyedRecord.{KeyedRecord}
-use Rattle.zone_tree.proofs.NameKeys.{keys_tell}
+use Rattle.name_table.proofs.NameKeys.{keys_tell}
 use Rattle.zone_tree.proofs.Owned.{rdata_of, tied_names}
 
 -- the record behind the reference

@@ -1,82 +1,35 @@
--- The last of names in order that doesn't stand behind another: where a search leaves it, and that no existing prefix of
--- the other name has more labels than both share.
-use Rattle.std.proofs.Common.{◌≡◌, ℕ, ◌+◌, ◌-◌, ◌<◌, ◌≤◌, true, false, List, [], ◌++◌, length, take, drop, get_or, Contains, Some, Err, Less, Equal, Greater, is_gt, sym, ap, ◌∙◌, subst, inl, inr, true≢false, arith}
+-- The last of names in order that doesn't stand behind another: no existing prefix of the other name has more labels than
+-- both share.
+use Rattle.std.proofs.Common.{◌≡◌, ℕ, ◌+◌, ◌<◌, ◌≤◌, true, false, List, [], ◌++◌, length, take, drop, get_or, Contains, Some, sym, ap, ◌∙◌, subst, inl, inr, arith}
 use Rattle.std.specs.List.{common_prefix_len}
-use Rattle.std.specs.List.Sorted.{IsBinarySearchResult, IsPartitionPoint}
-use Rattle.std.specs.Ordering.{ordering_reverse}
 use Rattle.std.proofs.lemmas.Bool.{cases_lt, false_from_ne_true}
-use Rattle.std.proofs.lemmas.Cmp.{tied_itself}
 use Rattle.std.proofs.lemmas.List.{take-append-drop, take_all, length-take-le, get_or_default}
 use Rattle.std.proofs.lemmas.List.Elements.{Contains-get_or}
-use Rattle.std.proofs.lemmas.List.Sorted.{searchable_from_sorted}
 use Rattle.std.proofs.lemmas.List.Sums.{common_prefix_len-le}
 use Rattle.dns_data.specs.Label.{label_eq}
 use Rattle.dns_data.specs.Name.{Labels, is_prefix, name_cmp, AreInOrder}
 use Rattle.dns_data.proofs.CommonFronts.{common_front, both_begin}
 use Rattle.dns_data.proofs.NameFronts.{Begins, is_prefix_tells}
 use Rattle.dns_data.proofs.NameOrder.{UpTo, Before, names_total, before_up_to, between}
-use Rattle.dns_data.proofs.Names.{same_names}
 use Rattle.dns_data.proofs.OrderedLists.{never_before_itself}
 use Rattle.net_model.specs.declared.config.Zone.{Zone}
 use Rattle.net_model.specs.Lookup.{closest_encloser}
 use Rattle.net_model.specs.Zone.{exists_in}
 use Rattle.net_model.proofs.Descent.{prefix_exists}
+use Rattle.name_table.specs.Table.{IsLastUpTo}
+use Rattle.name_table.proofs.Tables.{begins_up_to, up_to_later}
 use Rattle.zone_tree.specs.Names.{AreExisting}
-use Rattle.zone_tree.specs.Preceding.{IsLastUpTo, IsPreceding}
+use Rattle.zone_tree.specs.Preceding.{IsPreceding}
 use Rattle.zone_tree.specs.Tree.{ZoneTree}
 use Rattle.zone_tree.specs.declared.places.Preceding.{Preceding}
 use Rattle.zone_tree.proofs.Descents.{origin_begins, encloser_at}
-use Rattle.zone_tree.proofs.Existing.{existing_within, begins_up_to}
+use Rattle.zone_tree.proofs.Existing.{existing_within}
 use Rattle.zone_tree.proofs.Prefixes.{longest_itself}
-use Rattle.zone_tree.proofs.SearchedNames.{rises}
 use Rattle.zone_tree.proofs.SortedTree.{both_up_to}
-
--- a name that ties with another, or stands before it, doesn't stand behind it
-up_to_tied : (a b : Labels) → name_cmp a b ≡ Equal → UpTo a b
-up_to_tied a b e = ap is_gt e
-
-up_to_less : (a b : Labels) → Before a b → UpTo a b
-up_to_less a b e = ap is_gt e
-
--- a name stands before those that stand behind it
-turned_round : (a b : Labels) → name_cmp a b ≡ Greater → Before b a
-turned_round a b e = names_total.antisymm b a ∙ ap ordering_reverse e
 
 -- no name stands before itself
 pub not_itself : (name : Labels) → Before name name → ⊥
 not_itself name less = never_before_itself name_cmp names_total name less
-
--- ---- where a search leaves it
-
-module _ (names : List Labels) (name : Labels) (ordered : AreInOrder names) where
-  -- a name that is found at a place stands at the last place up to it
-  pub last_found : (place : ℕ) → place < length names → name_cmp (get_or names place []) name ≡ Equal → IsLastUpTo names name place
-  last_found place within tied = record {
-    within = within;
-    up_to = up_to_tied (get_or names place []) name tied;
-    behind = λ later behind below.
-        subst (λ (x : Labels). Before x (get_or names later [])) (same_names (get_or names place []) name tied) (ordered place later [] behind below);
-  }
-
-  module _ (place : ℕ) (some : 0 < length names) (first : UpTo (get_or names 0 []) name) (in_range : place ≤ length names)
-      (holds : IsBinarySearchResult (λ (other : Labels). name_cmp other name) names (Err place)) where
-    parts : IsPartitionPoint (λ (x : Labels). name_cmp x name ≡ Less) (λ (x : Labels). name_cmp x name ≡ Greater) names place
-    parts = holds (searchable_from_sorted names_total (λ (x : Labels). x) names name (rises names ordered))
-
-    -- where the first name doesn't stand behind the searched one, a search ends behind the first
-    pub not_first : 1 ≤ place
-    not_first = elim (cases_lt 0 place) [
-      | inl lower ↦ omega (arith, lower)
-      | inr none ↦ absurd (true≢false (sym (ap is_gt (parts.1 0 [] none some)) ∙ first))
-    ]
-
-    -- the name before the place where a search ends is the last that doesn't stand behind the searched one
-    pub last_before : IsLastUpTo names name (place - 1)
-    last_before = record {
-      within = omega (arith, not_first, in_range);
-      up_to = up_to_less (get_or names (place - 1) []) name (parts.0 (place - 1) [] (omega arith) (omega (arith, not_first)));
-      behind = λ later behind below. turned_round (get_or names later []) name (parts.1 later [] (omega (arith, not_first, behind)) below);
-    }
 
 -- ---- the prefixes of a name that begin the last name up to it
 
@@ -97,13 +50,7 @@ begins_last names place front name ordered within low begins has never =
     up : UpTo front (get_or names place [])
     up = elim (cases_lt place has.0) [
       | inl behind ↦ absurd (never has.0 behind has.1 there)
-      | inr early ↦ elim (cases_lt has.0 place) [
-        | inl lower ↦ subst (λ (x : Labels). UpTo x (get_or names place [])) there (up_to_less (get_or names has.0 []) (get_or names place []) (ordered has.0 place [] lower within))
-        | inr same ↦ (
-            let e : has.0 ≡ place = omega (arith, early, same) in
-            subst (λ (x : Labels). UpTo x (get_or names place [])) (ap (λ (n : ℕ). get_or names n []) (sym e) ∙ there)
-            (up_to_tied (get_or names place []) (get_or names place []) (tied_itself names_total (get_or names place []))))
-      ]
+      | inr early ↦ subst (λ (x : Labels). UpTo x (get_or names place [])) there (up_to_later names ordered has.0 place early within)
     ]
 
 module _ (zone : Zone) (names : List Labels) (name : Labels) (place : ℕ) (existing : AreExisting zone names) (inside : is_prefix zone.origin name ≡ true)

@@ -14,7 +14,8 @@ use Rattle.net_model.proofs.Descent.{prefix_exists}
 use Rattle.zone_tree.specs.FirstDecider.{is_cut, decides_below, first_decider, IsFirstDecider}
 use Rattle.zone_tree.specs.Names.{AreExisting}
 use Rattle.zone_tree.proofs.Descents.{short_cut, not_up_to, origin_begins, one_label_more}
-use Rattle.zone_tree.proofs.Existing.{existing_within, begins_up_to}
+use Rattle.name_table.proofs.Tables.{begins_up_to}
+use Rattle.zone_tree.proofs.Existing.{existing_within}
 use Rattle.zone_tree.proofs.FrontDeciders.{decider_found, decides_at_front, none_at_front, front_with}
 use Rattle.zone_tree.proofs.LastUpTo.{not_itself, front_begins, begins_last}
 use Rattle.zone_tree.proofs.Prefixes.{found_above, shortest_alone, shortest_next}

@@ -1,5 +1,5 @@
 -- What no data and one datum tell.
-use Rattle.std.proofs.Common.{◌≡◌, Bool, true, false, cond, List, [], ◌∷◌, Some, Bor, map, filter, sym, refl, ap, ◌∙◌, true≢false}
+use Rattle.std.proofs.Common.{◌≡◌, Bool, true, false, cond, List, [], ◌∷◌, Some, Bor, filter, sym, refl, ap, ◌∙◌, true≢false}
 use Rattle.std.specs.List.{list_any, filter_map}
 use Rattle.std.proofs.Math.Bool.{or-false}
 use Rattle.std.proofs.lemmas.Bool.{eq-eqb, or_left}

@@ -2,7 +2,7 @@
 use Rattle.std.specs.Ordering.{nat_cmp, ordering_then}
 use Rattle.std.specs.declared.cmp.Ordering.{Ordering}
 use Rattle.dns_data.specs.Name.{Labels, name_cmp}
-use Rattle.zone_tree.specs.Keys.{IsKeyBelow}
+use Rattle.name_table.specs.Keys.{IsKeyBelow}
 use Rattle.zone_tree.specs.declared.owners.KeyedRecord.{KeyedRecord}
 
 -- the key is that of the record's owner below the origin

@@ -5,7 +5,6 @@ pub mod Decider
 pub mod Few
 pub mod FirstDecider
 pub mod KeyedRecords
-pub mod Keys
 pub mod Merged
 pub mod Names
 pub mod OwnedData

@@ -1,6 +1,6 @@
 -- The names that exist in a zone, in order: its origin, and what each owner in order adds. The contracts of inner calls
 -- alone cite it.
-use Rattle.std.specs.Prelude.{◌≡◌, ℕ, true, not, List, [], ◌∷◌, ◌++◌, ◌↔◌, ◌<◌, length, slice_index_or, Contains}
+use Rattle.std.specs.Prelude.{◌≡◌, true, not, List, [], ◌∷◌, ◌++◌, ◌↔◌, ◌<◌, length, slice_index_or, Contains}
 use Rattle.std.specs.List.{filter}
 use Rattle.dns_data.specs.Name.{Labels, is_prefix, AreInOrder}
 use Rattle.net_model.specs.declared.config.Zone.{Zone}
@@ -15,12 +15,6 @@ new_prefixes before name = filter (λ above. not (is_prefix above before)) (pref
 abbrev pub tree_after : Labels → List Labels → List Labels
 tree_after before [] = []
 tree_after before (name ∷ names) = new_prefixes before name ++ tree_after name names
-
--- the first name stands below the second
-pub record IsStrictlyBelow (name above : Labels) : Type 0 where
-  pub first : List ℕ
-  pub rest : Labels
-  pub is : name ≡ above ++ first ∷ rest
 
 -- the names are those that exist in the zone, each once and in order
 pub record AreExisting (zone : Zone) (names : List Labels) : Type 0 where

@@ -1,17 +1,9 @@
 -- The last name in order that doesn't stand behind another. The contracts of inner calls alone cite it.
-use Rattle.std.specs.Prelude.{◌≡◌, ℕ, ◌+◌, ◌<◌, ◌≤◌, true, false, List, [], length, take, slice_index_or}
-use Rattle.std.specs.Ordering.{is_gt}
-use Rattle.std.specs.declared.cmp.Ordering.TheVariants.{Less}
-use Rattle.dns_data.specs.Name.{Labels, name_cmp}
+use Rattle.std.specs.Prelude.{◌≡◌, ◌+◌, ◌<◌, ◌≤◌, true, false, length, take}
+use Rattle.dns_data.specs.Name.{Labels}
 use Rattle.net_model.specs.Zone.{exists_in}
 use Rattle.zone_tree.specs.declared.places.Preceding.{Preceding}
 use Rattle.zone_tree.specs.Tree.{ZoneTree, IsNode, name_of}
-
--- the name at the place doesn't stand behind the name, and those at later places do
-pub record IsLastUpTo (names : List Labels) (name : Labels) (place : ℕ) : Type 0 where
-  pub within : place < length names
-  pub up_to : is_gt (name_cmp (slice_index_or names place []) name) ≡ false
-  pub behind : (later : ℕ) → place < later → later < length names → name_cmp name (slice_index_or names later []) ≡ Less
 
 -- the labels that a node's name shares with the name are those of its longest existing prefix; where the name exists, the
 -- node is its own

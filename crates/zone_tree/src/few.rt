@@ -70,7 +70,7 @@ impl<T: Drop> Few<T> {
         self.storage
     }
 
-    /// The items with another one behind them.
+    /// The items with another one behind them, in no more room than they take.
     pub(crate) fn with(self, alloc: Global, item: T) -> Result<Few<T>, NoMemory>
         ensures { IfOk result (λ few. few ≡ self ++ item ∷ []) }
     {
@@ -86,6 +86,7 @@ impl<T: Drop> Few<T> {
             }
             ItemStorage::More(items) => {
                 let mut items = items;
+                items.reserve_exact(1)?;
                 items.push(item)?;
                 Ok(Few::from_vec(items))
             }

@@ -16,9 +16,9 @@
 //! is found among the existing ones in as many steps as the logarithm of their number: each compares two keys, and names
 //! only where the keys are one, as they are of names below one label. Owners are compared so too when the records are
 //! sorted. A name is found in a few comparisons of names where it stands right behind a node's; one tells that no name
-//! stands below a node's, and a second one mostly whether the asterisk label does. What decides at a name takes one search,
-//! however many labels the name has. A closest encloser or a source of synthesis takes one, or a second one where the name
-//! before in order isn't the encloser itself.
+//! stands below a node's, and mostly whether the asterisk label does. What decides at a name takes one search, however
+//! many labels the name has. A closest encloser or a source of synthesis takes one, or a second one where the name before
+//! in order isn't the encloser itself.
 #![tactic(auto)]
 
 mod answers;
@@ -26,11 +26,9 @@ mod decider;
 mod enclosers;
 mod few;
 mod first_deciders;
-mod keys;
 mod names;
 mod node;
 mod order;
-mod ordered_names;
 mod owned_data;
 mod owners;
 mod places;

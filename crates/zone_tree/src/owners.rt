@@ -8,9 +8,9 @@ ghost use Rattle.zone_tree.specs.KeyedRecords.{HasKey, keyed_cmp};
 ghost use Rattle.zone_tree.specs.Owners.{AreByOwner, leading};
 ghost use Rattle.zone_tree.specs.Records.{data_of, TellsData};
 
-use crate::keys::key_if_below;
 use crate::owned_data::OwnedData;
 use dns_data::{Name, NoMemory, Rr};
+use name_table::key_if_below;
 use net_model::Zone;
 use std::alloc::Global;
 use std::cmp::Ordering;

@@ -19,12 +19,12 @@ use crate::first_deciders::first_deciders;
 use crate::names::existing_names;
 use crate::node::NodeId;
 use crate::order::merged;
-use crate::ordered_names::OrderedNames;
 use crate::owned_data::OwnedData;
 use crate::owners::{records_by_name, rrs_in_order};
-use crate::places::{Preceding, place_among, place_behind, place_of_child, place_up_to};
+use crate::places::Preceding;
 use crate::records::target_of;
 use dns_data::{Label, Labels, List, Name, NoMemory, Rdata, RrType, TypeSet};
+use name_table::NameTable;
 use net_model::Zone;
 use std::alloc::Global;
 use std::marker::Model;
@@ -34,7 +34,7 @@ use std::marker::Model;
 #[derive(Debug, Drop)]
 pub struct Tree<'a> {
     zone: &'a Zone,
-    names: OrderedNames,
+    names: NameTable,
     records: Vec<OwnedData<'a>>,
     first_deciders: Vec<NodeId>,
 }
@@ -62,10 +62,10 @@ impl<'a> Tree<'a> {
         let names = existing_names(alloc, zone, rrs)?;
         let records = records_by_name(alloc, names.as_slice(), rrs)?;
         let first_deciders = first_deciders(alloc, zone, names.as_slice(), records.as_slice())?;
-        let ordered = OrderedNames::of(alloc, names)?;
+        let table = NameTable::of(alloc, names)?;
         Ok(Tree {
             zone,
-            names: ordered,
+            names: table,
             records,
             first_deciders,
         })
@@ -84,7 +84,7 @@ impl<'a> Tree<'a> {
     pub fn names(&self) -> &[Name]
         ensures { result.now ≡ self.now.names }
     {
-        self.names.items()
+        self.names.names()
     }
 
     /// The node of the origin.
@@ -93,7 +93,7 @@ impl<'a> Tree<'a> {
         ensures name { name_of self.now result ≡ self.now.zone.origin }
     {
         // The names are read, so that it is known here that there is one.
-        let _ = self.names.items();
+        let _ = self.names.names();
         NodeId::at(0)
     }
 
@@ -102,7 +102,7 @@ impl<'a> Tree<'a> {
         requires { IsNode self.now node }
         ensures { result.now ≡ name_of self.now node }
     {
-        &self.names.items()[node.place()]
+        &self.names.names()[node.place()]
     }
 
     /// The node of a name, or `None` where the name doesn't exist in the zone.
@@ -119,7 +119,7 @@ impl<'a> Tree<'a> {
         ensures some { IfSome result (λ node. (node ≡ place) × IsNode self.now node) }
         ensures none { IfNone result (length self.now.names ≤ place) }
     {
-        if place < self.names.items().len() {
+        if place < self.names.names().len() {
             Some(NodeId::at(place))
         } else {
             None
@@ -132,7 +132,7 @@ impl<'a> Tree<'a> {
         ensures name { IfSome result (λ node. name_of self.now node ≡ labels.now) }
         ensures none { IsNone result ↔ (exists_in self.now.zone labels.now ≡ false) }
     {
-        let place = place_among(&self.names, labels)?;
+        let place = self.names.place_of(labels)?;
         Some(NodeId::at(place))
     }
 
@@ -144,7 +144,7 @@ impl<'a> Tree<'a> {
         ensures name { IfSome result (λ near. name_of self.now near ≡ labels.now) }
         ensures none { IsNone result ↔ (exists_in self.now.zone labels.now ≡ false) }
     {
-        match place_behind(self.names.items(), node.place(), labels) {
+        match self.names.place_behind(node.place(), labels) {
             Some(place) => Some(NodeId::at(place)),
             None => self.node_of(labels),
         }
@@ -157,8 +157,8 @@ impl<'a> Tree<'a> {
         ensures { IsPreceding self.now name.now result }
     {
         let labels = name.labels();
-        let place = place_up_to(&self.names, &labels);
-        let names = self.names.items();
+        let place = self.names.last_up_to(&labels);
+        let names = self.names.names();
         Preceding {
             node: NodeId::at(place),
             shared: names[place].labels().common_len(&labels) as usize,
@@ -194,7 +194,7 @@ impl<'a> Tree<'a> {
         ensures name { IfSome result (λ child. name_of self.now child ≡ name_of self.now node ++ label.now ∷ []) }
         ensures none { IsNone result ↔ (exists_in self.now.zone (name_of self.now node ++ label.now ∷ []) ≡ false) }
     {
-        let place = place_of_child(self.names.items(), node.place(), label)?;
+        let place = self.names.child(node.place(), label)?;
         Some(NodeId::at(place))
     }
 

@@ -4,7 +4,7 @@ use Rattle.dns_data.specs.Name.{Labels}
 use Rattle.dns_data.proofs.Membership.{none_in_nil, first_or_later, all_from_contains}
 use Rattle.label_graph.specs.Targets.{IsFound, IsFoundFrom, IsRootPlace, IsStepFrom}
 use Rattle.label_graph.proofs.FoundPlaces.{found_more}
-use Rattle.label_graph.proofs.NamePlaces.{one_place}
+use Rattle.name_table.proofs.Tables.{one_place}
 use Rattle.label_graph.proofs.Passing.{single_iff}
 use Rattle.label_graph.proofs.following.found_along.Goals as goal
 
@@ -17,19 +17,19 @@ found_iff names rows P Q same labels other =
 pub loop-label-init : goal.loop-label-init
 loop-label-init c =
     let names = c.args.base.now in
-    let root = c.root.result in
+    let root : ℕ = 0 in
     record {
       within = subst (All (λ (place : ℕ). place < length names)) (sym c.one-places.ensures)
           (all_from_contains (λ (place : ℕ). place < length names) (root ∷ []) (λ place has. elim (first_or_later root [] place has) [
-            | inl same ↦ subst (λ (k : ℕ). k < length names) same c.root.ensures.within
+            | inl same ↦ subst (λ (k : ℕ). k < length names) same c.requires.root.0
             | inr none ↦ absurd (none_in_nil place none)
           ]));
       found = λ other.
           subst (λ (labels : Labels). IsFoundFrom names c.args.reads.now (Contains c.one-places.result) labels other ↔ IsFound names c.args.reads.now c.args.name.now other) (sym c.labels-rest.ensures.same)
           (subst (λ (places : List ℕ). IsFoundFrom names c.args.reads.now (Contains places) c.args.name.now other ↔ IsFound names c.args.reads.now c.args.name.now other) (sym c.one-places.ensures)
           (found_iff names c.args.reads.now (Contains (root ∷ [])) (IsRootPlace names)
-          (single_iff root (IsRootPlace names) (c.root.ensures.within, c.root.ensures.root)
-          (λ o at. one_place names c.root.ensures.order root o c.root.ensures.within at.0 (c.root.ensures.root ∙ sym at.1))) c.args.name.now other));
+          (single_iff root (IsRootPlace names) (c.requires.root.0, c.requires.root.1)
+          (λ o at. one_place names c.requires.order root o c.requires.root.0 at.0 (c.requires.root.1 ∙ sym at.1))) c.args.name.now other));
     }
 
 pub loop-label-preserved : goal.loop-label-preserved

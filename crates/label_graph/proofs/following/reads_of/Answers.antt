@@ -9,9 +9,12 @@ pub loop-more-init : goal.loop-more-init
 loop-more-init c =
     record {
       each_true = subst (AreTrue c.args.base.now c.args.dnames.now) (sym c.new-reads.ensures)
-          (none_true c.args.base.now c.args.dnames.now (length c.items.result.now) (ap (λ (names : List Labels). length names) c.items.ensures.same));
+          (none_true c.args.base.now c.args.dnames.now (length c.names.result.now) (ap (λ (names : List Labels). length names) c.names.ensures.same));
       all = λ none. absurd (true≢false none);
     }
+
+pub follow_all-requires-clause-order : goal.follow_all-requires-clause-order
+follow_all-requires-clause-order c = c.names.ensures.table.ordered
 
 pub follow_all-requires-clause-each_true : goal.follow_all-requires-clause-each_true
 follow_all-requires-clause-each_true c = c.loop-more.invariant.each_true

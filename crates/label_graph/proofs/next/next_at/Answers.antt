@@ -11,6 +11,6 @@ returns-clause-label c = c.last_label.ensures.is ∙ ap (λ (l : List ℕ). name
 
 pub returns-clause-live : goal.returns-clause-live
 returns-clause-live c =
-    live_below_one c.args.base.now c.args.reads.now c.args.place c.args.other c.in_ok-label.label c.in_ok-live.live c.last_label.ensures.order c.requires.below
+    live_below_one c.args.base.now c.args.reads.now c.args.place c.args.other c.in_ok-label.label c.in_ok-live.live c.last_label.ensures.table.ordered c.requires.below
     (c.last_label.ensures.is ∙ ap (λ (l : List ℕ). name_at c.args.base.now c.args.place ++ l ∷ []) (sym c.in_ok-label.ensures))
     (λ o. subst (λ (l : List ℕ). Contains c.in_ok-live.live o ↔ SomeItem (IsFrom c.args.reads.now o) l) c.one.ensures (c.in_ok-live.ensures o))

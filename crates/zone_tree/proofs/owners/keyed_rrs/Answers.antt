@@ -4,11 +4,11 @@ use Rattle.std.proofs.lemmas.List.{map-append}
 use Rattle.std.proofs.lemmas.List.Elements.{All-nil, All-push}
 use Rattle.dns_data.specs.Name.{Labels, is_prefix}
 use Rattle.dns_data.specs.declared.rdata.Rr.{Rr}
-use Rattle.zone_tree.specs.Keys.{IsKeyBelow}
+use Rattle.name_table.specs.Keys.{IsKeyBelow}
 use Rattle.zone_tree.specs.KeyedRecords.{HasKey}
 use Rattle.zone_tree.specs.declared.owners.KeyedRecord.{KeyedRecord}
 use Rattle.zone_tree.proofs.KeyedRecords.{record_of, kept_more, kept_same}
-use Rattle.zone_tree.proofs.NameKeys.{key_inside}
+use Rattle.name_table.proofs.NameKeys.{key_inside}
 use Rattle.zone_tree.proofs.owners.keyed_rrs.Goals as goal
 use Rattle.zone_tree.proofs.owners.keyed_rrs.Goals.{in-Some+in_ok-push, in_default}
 

@@ -8,8 +8,8 @@ use Rattle.zone_tree.specs.declared.records.OwnedRecords.{OwnedRecords}
 use Rattle.zone_tree.specs.Owners.{leading}
 use Rattle.zone_tree.specs.Records.{data_of, TellsData}
 use Rattle.zone_tree.proofs.Owned.{owner_of, rdata_of, now_of, data_leading, data_behind, order_behind, order_from_first, next_up_to, from_drop}
-use Rattle.zone_tree.proofs.Pairs.{each_pushed}
-use Rattle.zone_tree.proofs.SearchedNames.{apart}
+use Rattle.name_table.proofs.Pairs.{each_pushed}
+use Rattle.name_table.proofs.SearchedNames.{apart}
 use Rattle.zone_tree.proofs.SortedTree.{InOrder}
 use Rattle.zone_tree.proofs.owners.records_by_name.Goals as goal
 

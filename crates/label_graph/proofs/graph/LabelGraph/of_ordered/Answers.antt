@@ -4,11 +4,19 @@ use Rattle.dns_data.proofs.Membership.{map_has}
 use Rattle.label_graph.specs.declared.pair.Pair.{Pair}
 use Rattle.label_graph.specs.LiveSet.{IsClosed}
 use Rattle.label_graph.specs.Pairs.{redirection, ground_with, AreSame}
-use Rattle.label_graph.specs.Targets.{AreReads}
+use Rattle.label_graph.specs.Targets.{AreReads, IsRootPlace}
+use Rattle.label_graph.proofs.OrderedNames.{closed_table, root_first}
 use Rattle.label_graph.proofs.graph.LabelGraph.of_ordered.Goals as goal
 
-pub reads_of-requires : goal.reads_of-requires
-reads_of-requires c pair among =
+pub of-requires : goal.of-requires
+of-requires c = closed_table c.args.names.items c.requires.order c.requires.closed.names
+
+pub reads_of-requires-clause-root : goal.reads_of-requires-clause-root
+reads_of-requires-clause-root c =
+    subst (λ (names : List Labels). IsRootPlace names 0) (sym c.in_ok-base.ensures) (root_first c.args.names.items c.requires.order c.requires.closed.names)
+
+pub reads_of-requires-clause-owners : goal.reads_of-requires-clause-owners
+reads_of-requires-clause-owners c pair among =
     subst (λ (names : List Labels). Contains names pair.from) (sym c.in_ok-base.ensures)
     (c.requires.closed.redirected (redirection pair) (map_has redirection c.args.dnames.now pair among))
 

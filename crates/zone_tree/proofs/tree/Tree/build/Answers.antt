@@ -1,6 +1,6 @@
-use Rattle.std.proofs.Common.{◌≡◌, ℕ, ◌<◌, true, List, [], Bor, map, length, get_or, Contains, sym, ap, ◌∙◌, subst, arith}
+use Rattle.std.proofs.Common.{◌≡◌, ℕ, ◌<◌, List, [], Bor, map, length, get_or, Contains, sym, ap, ◌∙◌, subst, arith}
 use Rattle.std.proofs.lemmas.List.Elements.{Contains-get_or}
-use Rattle.dns_data.specs.Name.{Labels, is_prefix}
+use Rattle.dns_data.specs.Name.{Labels}
 use Rattle.dns_data.specs.declared.rdata.Rdata.{Rdata}
 use Rattle.dns_data.specs.declared.rdata.Rr.{Rr}
 use Rattle.net_model.specs.declared.config.Zone.{Zone}
@@ -9,7 +9,7 @@ use Rattle.zone_tree.specs.Names.{AreExisting}
 use Rattle.zone_tree.specs.Owners.{AreByOwner}
 use Rattle.zone_tree.specs.Records.{data_of, TellsData, IsTree}
 use Rattle.zone_tree.specs.declared.records.OwnedRecords.{OwnedRecords}
-use Rattle.zone_tree.proofs.Existing.{existing_within, owners_among}
+use Rattle.zone_tree.proofs.Existing.{existing_within, existing_table, owners_among}
 use Rattle.zone_tree.proofs.Owned.{now_of}
 use Rattle.zone_tree.proofs.tree.Tree.build.Goals as goal
 
@@ -47,27 +47,18 @@ first_deciders-requires c =
     (told zone (map now_of c.as_slice-rrs.result.now) c.in_ok-names.names.items c.as_slice.result.now c.in_ok-records.records.items
     c.as_slice.ensures.value are c.in_ok-names.ensures c.in_ok-records.ensures.many c.in_ok-records.ensures.each))
 
--- the origin, which is the first name, is above each
-below_origin : (zone : Zone) (names : List Labels) → AreExisting zone names → (k : ℕ) → k < length names
-    → is_prefix (get_or names 0 []) (get_or names k []) ≡ true
-below_origin zone names existing k below =
-    ap (λ (origin : Labels). is_prefix origin (get_or names k [])) existing.origin_first
-    ∙ existing_within zone (get_or names k []) ((existing.all (get_or names k [])).0 (Contains-get_or names k [] below))
-
 pub of-requires : goal.of-requires
-of-requires c =
-    let existing : AreExisting c.args.zone.now c.in_ok-names.names.items = c.in_ok-names.ensures in
-    record { ordered = existing.ordered; some = existing.some; below = below_origin c.args.zone.now c.in_ok-names.names.items existing }
+of-requires c = existing_table c.args.zone.now c.in_ok-names.names.items c.in_ok-names.ensures
 
 pub invariant_of-result : goal.invariant_of-result
 invariant_of-result c =
     let zone = c.args.zone.now in
     let are : AreByOwner zone (map now_of c.as_slice-rrs.result.now) =
     subst (λ (xs : List (Bor Rr)). AreByOwner zone (map now_of xs)) (sym c.as_slice-rrs.ensures.value) c.in_ok-sorted.ensures in (
-      subst (λ (names : List Labels). IsTree zone names c.in_ok-records.records.items) (sym c.in_ok-ordered.ensures)
+      subst (λ (names : List Labels). IsTree zone names c.in_ok-records.records.items) (sym c.in_ok-table.ensures)
           (told zone (map now_of c.as_slice-rrs.result.now) c.in_ok-names.names.items c.as_slice.result.now c.in_ok-records.records.items
           c.as_slice.ensures.value are c.in_ok-names.ensures c.in_ok-records.ensures.many c.in_ok-records.ensures.each),
-      subst (λ (names : List Labels). AreFirstDeciders zone names c.in_ok-first_deciders.first_deciders.items) (sym c.in_ok-ordered.ensures)
+      subst (λ (names : List Labels). AreFirstDeciders zone names c.in_ok-first_deciders.first_deciders.items) (sym c.in_ok-table.ensures)
           (subst (λ (names : List Labels). AreFirstDeciders zone names c.in_ok-first_deciders.first_deciders.items) c.as_slice-2.ensures.value
           c.in_ok-first_deciders.ensures),
     )
