@@ -5,3 +5,4 @@ pub mod Single
 pub mod Values
 pub mod Strings
 mod Worked
+pub mod RowByRow

@@ -4,3 +4,4 @@ pub mod Names
 pub mod Tops
 pub mod Rows
 pub mod Metadata
+pub mod RowByRow

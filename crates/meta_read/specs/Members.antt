@@ -16,9 +16,13 @@ abbrev pub values_of : Items → List Data
 values_of no_items = []
 values_of (item value items) = value ∷ values_of items
 
+-- the values of a member that is an array
+abbrev pub list_in : Option Data → Option (List Data)
+list_in member = option_map values_of (option_and_then as_array member)
+
 -- the values of the array at a key
 abbrev pub list_at : List ℕ → Data → Option (List Data)
-list_at key value = option_map values_of (option_and_then as_array (get key value))
+list_at key value = list_in (get key value)
 
 -- the string at a key
 abbrev pub text_at : List ℕ → Data → Option (List ℕ)

@@ -6,9 +6,10 @@
 //! `read_metadata_within` is told how many rows there may be. `list_at` and `text_at` give what stands at a key of an
 //! object, of that kind alone.
 //!
-//! Costs: the text is read once, and its value is held until the metadata are made. Names of top servers are made
+//! Costs: rows are read one after another, each twice, and one at a time is held as a value; what doesn't read so, or has
+//! a fault, is read once more as one value, which is held until the fault is found. Names of top servers are made
 //! single, and looked up among the servers of rows, by sets in the order of names, so a list of any length takes its
-//! length times a logarithm. A list of more rows than there may be is refused before a row is looked at.
+//! length times a logarithm. A list of more rows than there may be is refused before a row of that value is looked at.
 #![tactic(auto)]
 
 mod fault;
@@ -17,6 +18,7 @@ mod members;
 mod meta;
 mod names;
 mod read;
+mod row_by_row;
 mod rows;
 mod tops;
 

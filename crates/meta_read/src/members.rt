@@ -3,7 +3,7 @@
 ghost use Rattle.std.specs.Prelude.{◌≡◌, map};
 ghost use Rattle.std.specs.Option.{option_map};
 ghost use Rattle.serde_json.specs.View.{view};
-ghost use Rattle.meta_read.specs.Members.{list_at, text_at};
+ghost use Rattle.meta_read.specs.Members.{list_in, list_at, text_at};
 
 use serde_json::Value;
 
@@ -11,7 +11,14 @@ use serde_json::Value;
 pub fn list_at<'a>(value: &'a Value, key: &str) -> Option<&'a [Value]>
     ensures { option_map (λ values. map view values.now) result ≡ list_at key.now (view value.now) }
 {
-    Some(value.get(key)?.as_array()?.as_slice())
+    list_in(value.get(key))
+}
+
+/// The items of a member that is a list, or `None` where it is none (RFC 8259 section 5).
+pub(crate) fn list_in(member: Option<&Value>) -> Option<&[Value]>
+    ensures { option_map (λ values. map view values.now) result ≡ list_in (option_map (λ value. view value.now) member.entry) }
+{
+    Some(member?.as_array()?.as_slice())
 }
 
 /// The string at a key, or `None` where no string stands there (RFC 8259 section 7).

@@ -42,7 +42,7 @@ fn each_row(alloc: Global, values: &[Value]) -> Result<List<MetaRow>, MetaFault>
 }
 
 /// A row: its shape is looked at before its names.
-fn read_row(alloc: Global, number: u32, row: &Value) -> Result<MetaRow, MetaFault>
+pub(crate) fn read_row(alloc: Global, number: u32, row: &Value) -> Result<MetaRow, MetaFault>
     ensures { AnswersOr MetaFault.NoMemory result (read_row number (view row.now)) }
 {
     let Some(file) = file_in_row(row) else {

@@ -2,14 +2,15 @@
 
 ghost use Rattle.std.specs.Prelude.{◌≡◌, map, is_some};
 ghost use Rattle.std.specs.List.{list_all};
+ghost use Rattle.std.specs.Option.{option_map};
 ghost use Rattle.serde_json.specs.Find.{as_str};
 ghost use Rattle.serde_json.specs.View.{view};
 ghost use Rattle.dns_data.specs.Answers.{AnswersOr};
 ghost use Rattle.meta_read.specs.Names.{each};
-ghost use Rattle.meta_read.specs.Tops.{tops_of, tops_in, top_of};
+ghost use Rattle.meta_read.specs.Tops.{tops_of, tops_at, tops_in, top_of};
 
 use crate::fault::MetaFault;
-use crate::members::list_at;
+use crate::members::list_in;
 use crate::names::{name_in_row, once};
 use dns_data::{List, Name};
 use serde_json::Value;
@@ -19,7 +20,14 @@ use std::alloc::Global;
 pub(crate) fn read_tops(alloc: Global, value: &Value) -> Result<List<Name>, MetaFault>
     ensures { AnswersOr MetaFault.NoMemory result (tops_of (view value.now)) }
 {
-    let Some(values) = list_at(value, "TopNameServers") else {
+    tops_at(alloc, value.get("TopNameServers"))
+}
+
+/// The top servers that a member names, each once, at its first place.
+pub(crate) fn tops_at(alloc: Global, member: Option<&Value>) -> Result<List<Name>, MetaFault>
+    ensures { AnswersOr MetaFault.NoMemory result (tops_at (option_map (λ value. view value.now) member.entry)) }
+{
+    let Some(values) = list_in(member) else {
         return Err(MetaFault::Shape { row: 0 });
     };
     let names = tops_in(alloc, values)?;

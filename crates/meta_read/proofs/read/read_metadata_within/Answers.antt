@@ -1,18 +1,15 @@
-use Rattle.std.proofs.Common.{sym, ap, subst, ◌∙◌, inr}
-use Rattle.std.specs.Option.{ok_or}
-use Rattle.std.proofs.lemmas.Bool.{false≢true}
+use Rattle.std.proofs.Common.{ap, subst, sym, ◌∙◌}
+use Rattle.std.specs.Option.{option_map}
 use Rattle.serde_json.specs.View.{view}
-use Rattle.dns_data.specs.Answers.{AnswersOr, ◌>>=◌}
-use Rattle.meta_read.specs.Metadata.{metadata_in}
-use Rattle.meta_read.specs.declared.fault.MetaFault.TheVariants.{NotJson, NoMemory}
-use Rattle.meta_read.proofs.Values.{value_of-read, value_of-unread}
+use Rattle.dns_data.specs.Answers.{AnswersOr}
+use Rattle.meta_read.specs.RowByRow.{with_rows}
+use Rattle.meta_read.specs.declared.fault.MetaFault.TheVariants.{NoMemory}
+use Rattle.meta_read.proofs.RowByRow.{by_rows, view_copied}
 use Rattle.meta_read.proofs.read.read_metadata_within.Goals as goal
 
-pub returns-in-Ok : goal.returns-in-Ok
-returns-in-Ok c =
-    let same = value_of-read c.args.octets.now (view c.in-Ok.value) c.in-Ok.ensures.ok.0 c.in-Ok.ensures.ok.1 in
-    subst (AnswersOr NoMemory c.metadata_in.result) (sym (ap (λ value. ok_or value NotJson >>= metadata_in c.args.most) same)) c.metadata_in.ensures
-
-pub returns-else-is_memory : goal.returns-else-is_memory
-returns-else-is_memory c =
-    inr (ap (λ value. ok_or value NotJson >>= metadata_in c.args.most) (value_of-unread c.args.octets.now (c.in-Err.ensures.err (λ memory. absurd (false≢true (sym c.if-is_memory.false ∙ c.is_memory.ensures.1 memory))))))
+pub returns-in-Some-rows : goal.returns-in-Some-rows
+returns-in-Some-rows c =
+    let rows = c.in-Some-rows.rows in
+    let lent = view_copied c.as_ref.result ∙ ap (option_map view) c.as_ref.ensures.value in
+    subst (AnswersOr NoMemory c.with_rows.result)
+    (ap (with_rows rows) lent ∙ sym (by_rows c.args.most c.args.octets.now c.in-Some.field-0 rows c.in-Some.ensures c.in-Some-rows.is)) c.with_rows.ensures
