@@ -9,7 +9,7 @@ use Rattle.dns_data.proofs.Membership.{first_or_later, has_first, none_in_nil}
 use Rattle.address_deps.specs.declared.told.AddressTold.{AddressTold}
 use Rattle.graph_form.proofs.Paths.{same_item}
 use Rattle.dns_data.specs.Listed.{places_of}
-use Rattle.zone_lookup.specs.Listed.{IsListedFor}
+use Rattle.zone_lookup.specs.ListedFor.{IsListedFor}
 use Rattle.zone_lookup.proofs.TopsHolding.{Places}
 use Rattle.address_deps.specs.Dependents.{AreAllPlaces, AreDependents, told_awaits}
 

@@ -3,7 +3,7 @@
 ghost use Rattle.std.specs.Prelude.{◌≡◌, ◌++◌, ◌∷◌, [], true, false, Contains, IfOk, OnOk, length, map};
 ghost use Rattle.std.specs.List.{flat_map};
 ghost use Rattle.dns_data.specs.Listed.{places_of};
-ghost use Rattle.zone_lookup.specs.Listed.{IsListedFor};
+ghost use Rattle.zone_lookup.specs.ListedFor.{IsListedFor};
 ghost use Rattle.address_deps.specs.Dependents.{AreDependents, told_awaits, turn_awaits, turns_await};
 
 use crate::told::{AddressTold, Turn};

@@ -3,15 +3,12 @@
 ghost use Rattle.std.specs.Prelude.{◌≡◌, true};
 ghost use Rattle.dns_data.specs.Name.{is_prefix};
 ghost use Rattle.zone_lookup.specs.LentCut.{cut_of};
-ghost use Rattle.zone_tree.specs.Tree.{IsNode, name_of};
 ghost use Rattle.straight_walks.specs.Faulty.{AreToldOf};
-ghost use Rattle.straight_walks.specs.Searching.{EndsOutside, IsReferral};
+ghost use Rattle.straight_walks.specs.Searching.{IsReferral};
 
 use crate::asked::Asked;
 use crate::faulty::ReferralFlags;
-use dns_data::Name;
-use zone_lookup::{CutFlags, Hosts, Lead, LentCut, Walker, lacks_glue};
-use zone_tree::{NodeId, Tree};
+use zone_lookup::{CutFlags, Lead, LentCut, Walker};
 
 /// A referral to a name server, with the faults that it shows: walks end there, since it isn't configured or has no zone at
 /// or below the zone cut, or go on to it. Of other referrals nothing is said, such as of those to a name server without an
@@ -21,19 +18,6 @@ pub(crate) enum Referral {
     Ends(ReferralFlags),
     GoesOn(ReferralFlags),
     Unclear,
-}
-
-/// Whether the name server of a zone cut isn't configured, so that walks end there, and the referral to it is seen to show
-/// no fault.
-pub(crate) fn ends_outside(hosts: &Hosts<'_>, tree: &Tree<'_>, cut: NodeId, ns: &Name) -> bool
-    requires node { IsNode tree.now cut }
-    requires inside { is_prefix tree.now.zone.origin (name_of tree.now cut) ≡ true }
-    ensures { result ≡ true → EndsOutside hosts.now tree.now cut ns.now }
-{
-    match hosts.host(ns) {
-        Some(_) => false,
-        None => !lacks_glue(tree, cut, ns),
-    }
 }
 
 /// The referral of the query to a name server of a zone cut, of which it is told what it shows.

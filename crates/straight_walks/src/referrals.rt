@@ -12,27 +12,11 @@ ghost use Rattle.straight_walks.specs.Searching.{AllEndOutside, AreReferrals, Is
 
 use crate::asked::Asked;
 use crate::faulty::{Faulty, ReferralFlags};
-use crate::name_server::{Referral, ends_outside, referral_to};
+use crate::name_server::{Referral, referral_to};
 use crate::queue::Queue;
 use dns_data::{Name, NoMemory};
-use zone_lookup::{CutFlags, Hosts, LentCut, Near};
+use zone_lookup::{CutFlags, LentCut, Near};
 use zone_tree::{NodeId, Tree};
-
-/// Whether none of the name servers of a zone cut is configured, so that walks end at all of them, and the referrals are
-/// seen to show no fault. It takes no memory.
-pub(crate) fn all_end_outside(hosts: &Hosts<'_>, tree: &Tree<'_>, cut: NodeId) -> bool
-    requires node { IsNode tree.now cut }
-    requires inside { is_prefix tree.now.zone.origin (name_of tree.now cut) ≡ true }
-    ensures { result ≡ true → AllEndOutside hosts.now tree.now cut }
-{
-    let servers = tree.name_servers(cut);
-    for ns in servers {
-        if !ends_outside(hosts, tree, cut, ns) {
-            return false;
-        }
-    }
-    !servers.is_empty()
-}
 
 /// A server that refers a name, with the zone cut by which it does, and a place near which the zone is looked for.
 #[derive(Clone, Copy)]
@@ -41,6 +25,33 @@ pub(crate) struct Referring<'h, 'a> {
     pub near: Near,
     pub tree: &'h Tree<'a>,
     pub cut: NodeId,
+}
+
+/// Whether none of the name servers of a zone cut is configured, so that walks end at all of them, and the table tells that
+/// the referrals show no fault. It takes no memory.
+pub(crate) fn all_end_outside(asked: Asked<'_, '_, '_>, from: Referring<'_, '_>) -> bool
+    requires table { IsTableOf asked.hosts.now asked.sets.now asked.table.now }
+    requires node { IsNode from.tree.now from.cut }
+    requires held { held_zone asked.hosts.now from.server.now from.tree.now.zone.origin ≡ Some from.tree.now.zone }
+    ensures { result ≡ true → AllEndOutside asked.entry.hosts.now from.entry.tree.now from.entry.cut }
+{
+    let Referring {
+        server,
+        near,
+        tree,
+        cut,
+    } = from;
+    let told = asked.table.told(near, server, tree, cut);
+    if told.is_some() {
+        return false;
+    }
+    let servers = tree.name_servers(cut);
+    for ns in servers {
+        if asked.hosts.host(ns).is_some() {
+            return false;
+        }
+    }
+    !servers.is_empty()
 }
 
 /// Whether walks are seen to go straight by the referrals of a zone cut from a server. The states at its name servers to

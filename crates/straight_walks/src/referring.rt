@@ -1,14 +1,16 @@
 //! Searches up to a server that refers the query.
 
+ghost use Rattle.zone_lookup.specs.CutTable.{IsTableOf};
 ghost use Rattle.straight_walks.specs.Searching.{IsNextReferral};
 
 use crate::answering::put_answer;
+use crate::asked::Asked;
 use crate::ends::StraightEnds;
 use crate::queue::Queued;
-use crate::referrals::all_end_outside;
-use dns_data::{Name, NoMemory};
+use crate::referrals::{Referring, all_end_outside};
+use dns_data::NoMemory;
 use std::alloc::Global;
-use zone_lookup::{Hosts, Reply, reply_near};
+use zone_lookup::{Reply, reply_near};
 use zone_tree::{NodeId, Tree};
 
 /// The next referral of a search over the queued states that it hasn't passed yet: there is none, walks end at all of
@@ -32,30 +34,36 @@ pub(crate) enum NextReferral<'h, 'a> {
 #[tactic(auto, using(crate::proofs::Replies::refers_inside, crate::proofs::Replies::refers_held))]
 pub(crate) fn next_referral<'h, 'a>(
     alloc: Global,
-    hosts: &'h Hosts<'a>,
-    query: &Name,
+    asked: Asked<'h, '_, 'a>,
     queue: &[Queued<'a>],
     passed: usize,
     ends: &mut StraightEnds<'h, 'a>,
 ) -> NextReferral<'h, 'a>
-    ensures { IsNextReferral hosts.now query.now queue.now passed ends.old ends.new result }
+    requires { IsTableOf asked.hosts.now asked.sets.now asked.table.now }
+    ensures { IsNextReferral asked.entry.hosts.now asked.entry.name.now queue.now passed ends.old ends.new result }
 {
     let mut passed = passed;
     while passed < queue.len() {
         let one = queue[passed];
-        let passes = match reply_near(hosts, one.near, one.server, query) {
+        let passes = match reply_near(asked.hosts, one.near, one.server, asked.name) {
             Reply::Outside => {
                 ends.put_failing();
                 true
             }
             Reply::Refers(tree, cut) => {
-                if !all_end_outside(hosts, tree, cut) {
+                let from = Referring {
+                    server: one.server,
+                    near: one.near,
+                    tree,
+                    cut,
+                };
+                if !all_end_outside(asked, from) {
                     return NextReferral::Refers { passed, tree, cut };
                 }
                 ends.put_failing();
                 true
             }
-            reply => match put_answer(alloc, hosts, one, query, reply, ends) {
+            reply => match put_answer(alloc, asked.hosts, one, asked.name, reply, ends) {
                 Ok(answered) => answered,
                 Err(NoMemory) => return NextReferral::NoMemory,
             },

@@ -22,6 +22,9 @@ impl<'h, 'a> StraightEnds<'h, 'a> {
     pub fn shown(&self, alloc: Global, query: &Name) -> Result<List<Seen>, NoMemory>
         ensures { IfOk result (AreFirstTypes (with_type types.A (told_of query.now self.now))) }
     {
+        if self.faulty.as_slice().is_empty() {
+            return Ok(List::new(alloc));
+        }
         let mut told = List::new(alloc);
         for one in self.faulty.as_slice() {
             put_faults(alloc, query, one, &mut told)?;

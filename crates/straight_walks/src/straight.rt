@@ -158,14 +158,7 @@ fn ends_from<'h, 'a>(
         below: true,
         unnamed_below: true,
     };
-    match next_referral(
-        alloc,
-        asked.hosts,
-        asked.name,
-        queue,
-        searched.passed,
-        &mut ends,
-    ) {
+    match next_referral(alloc, asked, queue, searched.passed, &mut ends) {
         NextReferral::Ends => Ok(ends_within(ends, queue.len(), limits)),
         NextReferral::NoMemory => Err(NoMemory),
         NextReferral::Unclear => Ok(None),
@@ -198,14 +191,7 @@ fn all_ends<'h, 'a>(
     let mut passed = passed;
     let mut ends = ends;
     while queue.len() <= limits.states {
-        match next_referral(
-            alloc,
-            asked.hosts,
-            asked.name,
-            queue.as_slice(),
-            passed,
-            &mut ends,
-        ) {
+        match next_referral(alloc, asked, queue.as_slice(), passed, &mut ends) {
             NextReferral::Ends => return Ok(ends_within(ends, queue.len(), limits)),
             NextReferral::NoMemory => return Err(NoMemory),
             NextReferral::Unclear => return Ok(None),

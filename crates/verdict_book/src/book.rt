@@ -1,6 +1,7 @@
 //! The book.
 
 ghost use Rattle.std.specs.Prelude.{◌≡◌, ◌∷◌, [], ◌++◌, ◌+◌, ◌≤◌, length, nat_le, true, IfOk, IfErr, OnOk, OnErr, Some, None, Err};
+ghost use Rattle.std.specs.Ordering.{is_eq};
 ghost use Rattle.pool_core.specs.declared.event.StopCause.TheVariants.{Full};
 ghost use Rattle.pool_core.specs.declared.history.HistoryEntry.TheVariants.{Claim as ClaimOf, File as FileOf};
 ghost use Rattle.pool_core.specs.History.{issued_in, first_stop};
@@ -181,10 +182,7 @@ impl<W: Work> Book<W> {
         ensures { result ≡ keeps_claim W.Item.cmp W.first_item W.children_of self.now.history claim.now }
     {
         if is_claimed(self.kept(claim.ticket)) {
-            self.rows[claim.ticket as usize]
-                .item
-                .cmp(&claim.item)
-                .is_eq()
+            are_same(&self.rows[claim.ticket as usize].item, &claim.item)
         } else {
             false
         }
@@ -310,4 +308,12 @@ impl<W: Work> Book<W> {
         sort_by_places(alloc, &mut list)?;
         Ok(List::from_vec(list))
     }
+}
+
+/// Whether the items are the same. Items of a work come here as items of any ordered type, since the law that tells this of
+/// their order is known of a type parameter alone.
+fn are_same<T: Ord>(one: &T, other: &T) -> bool
+    ensures { result ≡ is_eq (T.cmp one.now other.now) }
+{
+    *one == *other
 }

@@ -9,6 +9,7 @@ pub mod Leading
 mod LikeTops
 pub mod ListedWalks
 pub mod NamesAtRest
+mod NearestHere
 pub mod NearestZones
 mod OriginsBefore
 mod PlacesNear

@@ -32,7 +32,7 @@ use Rattle.net_model.specs.declared.config.Zone.{Zone}
 use Rattle.net_model.proofs.FirstLabel.{nat_cmp_less}
 use Rattle.net_model.proofs.Prefixes.{from_prefixes, prefixes_have}
 use Rattle.zone_tree.proofs.Prefixes.{begins_short}
-use Rattle.zone_lookup.specs.Listed.{IsListedFor}
+use Rattle.zone_lookup.specs.ListedFor.{IsListedFor}
 use Rattle.zone_lookup.specs.Tops.{HoldsAt, HoldsThese, IsListedAbove, ListsTops, tops_holding, with_tops}
 
 -- ---- places of items

@@ -13,7 +13,7 @@ pub mod Hosts
 pub mod Leads
 pub mod LearntSets
 pub mod LentCut
-pub mod Listed
+pub mod ListedFor
 pub mod Named
 pub mod ReferralFaults
 pub mod Reply

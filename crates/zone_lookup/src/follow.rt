@@ -69,7 +69,7 @@ pub fn has_glue_below(tree: &Tree<'_>, cut: NodeId, ns: &Name) -> bool
 }
 
 /// Whether the name server of a zone cut is at or below it, and the zone holds no address of it.
-pub fn lacks_glue(tree: &Tree<'_>, cut: NodeId, ns: &Name) -> bool
+pub(crate) fn lacks_glue(tree: &Tree<'_>, cut: NodeId, ns: &Name) -> bool
     requires node { IsNode tree.now cut }
     requires inside { is_prefix tree.now.zone.origin (name_of tree.now cut) ≡ true }
     ensures { result ≡ (is_prefix (name_of tree.now cut) ns.now && not (has_address tree.now.zone ns.now)) }

@@ -17,16 +17,17 @@
 //! data are looked at but those that are answered. A server and a zone are found in as many comparisons of names as the
 //! logarithm of their number. For the nearest zone of a name there is one such search, `nearest_item`, and one more each
 //! time that the origin before the place of the name, or of its prefix, is not at or above the name: the next search is
-//! for the prefix that both have in common. The first search takes two comparisons where the place near which the name is
-//! looked for is the place of the last origin that isn't behind it; a server takes one where it stands at its place near,
-//! as `nearest_near` looks for both. Glue that stands right behind its zone cut in the order of names is found in a few
-//! comparisons. Of a referral both zones are found by their origins, and their name servers and the addresses of glue are
-//! compared; whether a name is among the learnt ones is found in sets that are made once. Of a name server that isn't
-//! configured only its glue is looked for. `CutTable` keeps nothing of a zone cut where there is nothing to tell; else five
-//! octets a name server, found by the place of the cut's name. `may_follow` passes over the top servers. Those that hold a
-//! zone for a name are found by its prefixes, and `learnt_at_tops` asks each of them once. Where thousands hold the same
-//! zones they are asked as one: `TopServers::unlike` compares each top server's zones, record by record, with those of a
-//! few others, and leaves the server out where they are the same.
+//! for the prefix that both have in common. The first search takes one comparison where the place near which the name is
+//! looked for is that of the nearest zone's origin, and two where it is that of another last origin that isn't behind the
+//! name; a server takes one where it stands at its place near, as `nearest_near` looks for both. Glue that stands right
+//! behind its zone cut in the order of names is found in a few comparisons. Of a referral both zones are found by their
+//! origins, and their name servers and the addresses of glue are compared; whether a name is among the learnt ones is found
+//! in sets that are made once. Of a name server that isn't configured only its glue is looked for. `CutTable` keeps nothing
+//! of a zone cut where there is nothing to tell; else five octets a name server, found by the place of the cut's name.
+//! `may_follow` passes over the top servers. Those that hold a zone for a name are found by its prefixes, and
+//! `learnt_at_tops` asks each of them once. Where thousands hold the same zones they are asked as one: `TopServers::unlike`
+//! compares each top server's zones, record by record, with those of a few others, and leaves the server out where they are
+//! the same.
 #![tactic(auto)]
 
 mod alike;
@@ -57,7 +58,7 @@ pub use alike::{one_set, split_by, split_types};
 pub use cut_flags::CutFlags;
 pub use cut_table::CutTable;
 pub use ends::gives_address;
-pub use follow::{has_glue_below, lacks_glue};
+pub use follow::has_glue_below;
 pub use hosts::{Host, Hosts, Near};
 pub use leads::Lead;
 pub use learnt_sets::{LearntSets, set_of};

@@ -3,7 +3,7 @@
 ghost use Rattle.std.specs.Prelude.{◌≡◌, ◌∷◌, [], false, OnOk};
 ghost use Rattle.dns_data.specs.Listed.{places_of};
 ghost use Rattle.dns_data.specs.Name.{Labels, name_eq};
-ghost use Rattle.zone_lookup.specs.Listed.{IsListedFor};
+ghost use Rattle.zone_lookup.specs.ListedFor.{IsListedFor};
 
 use dns_data::{List, Name, NoMemory};
 use std::alloc::Global;

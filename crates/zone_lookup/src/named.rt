@@ -1,10 +1,10 @@
 //! Items in the order of their names, and searches among them.
 
-ghost use Rattle.std.specs.Prelude.{◌≡◌, ◌<◌, ◌≤◌, map, take, length, Err, IfOk, IfErr, IfSome, IfNone};
+ghost use Rattle.std.specs.Prelude.{◌≡◌, ◌<◌, ◌≤◌, true, map, take, length, Err, IfOk, IfErr, IfSome, IfNone};
 ghost use Rattle.std.specs.List.{HoldsAt};
 ghost use Rattle.std.specs.List.Sorted.{IsStrictlySortedBy, IsSearchInRange, IsBinarySearchResult};
 ghost use Rattle.std.specs.Option.{option_map};
-ghost use Rattle.std.specs.declared.cmp.Ordering.TheVariants.{Less};
+ghost use Rattle.std.specs.declared.cmp.Ordering.TheVariants.{Less, Greater};
 ghost use Rattle.dns_data.specs.Name.{Labels, name_cmp};
 ghost use Rattle.zone_lookup.specs.Named.{item_named, NoneFrom, IsAtLongest};
 
@@ -56,12 +56,43 @@ pub fn nearest_item<'i, T: Named>(items: &'i [T], near: &mut usize, name: &Name)
     ensures some { IfSome result (λ item. IsAtLongest (item_named T.name_of items.now) name.now (length name.now) item.now) }
     ensures none { IfNone result (NoneFrom (item_named T.name_of items.now) name.now (length name.now) 0) }
 {
+    if let Some(item) = nearest_at(items, *near, name) {
+        return Some(item);
+    }
     let count = name.len() as usize;
     let place = place_near(items, *near, &name.labels());
     *near = not_behind(place);
     match nearest_or_fewer(items, name, count, place) {
         Ok(item) => Some(item),
         Err(fewer) => nearest_of_fewer(items, name, fewer),
+    }
+}
+
+/// The item whose name is the longest at or above this one, where it stands at a place, and the next one tells that.
+fn nearest_at<'i, T: Named>(items: &'i [T], near: usize, name: &Name) -> Option<&'i T>
+    requires { IsStrictlySortedBy name_cmp (map T.name_of items.now) }
+    ensures { IfSome result (λ item. IsAtLongest (item_named T.name_of items.now) name.now (length name.now) item.now) }
+{
+    match items.get(near) {
+        Some(item) if item.its_name().is_prefix_of(name) => {
+            if is_past(items, near + 1, &name.labels()) {
+                Some(item)
+            } else {
+                None
+            }
+        }
+        _ => None,
+    }
+}
+
+/// Whether the name of the item at a place stands behind this one, or there is no such item.
+fn is_past<T: Named>(items: &[T], place: usize, name: &Labels<'_>) -> bool
+    ensures { result ≡ true → place < length items.now → HoldsAt (λ item. name_cmp (T.name_of item) name.now ≡ Greater) items.now place }
+{
+    match order_at(items, place, name) {
+        Some(Ordering::Greater) => true,
+        Some(_) => false,
+        None => true,
     }
 }
 

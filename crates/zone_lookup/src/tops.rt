@@ -5,7 +5,7 @@ ghost use Rattle.std.specs.List.{filter_map};
 ghost use Rattle.dns_data.specs.Name.{Labels};
 ghost use Rattle.net_model.specs.Nearest.{nearest_of};
 ghost use Rattle.zone_lookup.specs.Tops.{HasLike, HoldsThese, IsListedAbove, ListsTops, StandsForTops, nearest_among, tops_holding, with_tops};
-ghost use Rattle.zone_lookup.specs.Listed.{IsListedFor};
+ghost use Rattle.zone_lookup.specs.ListedFor.{IsListedFor};
 
 use crate::hosts::Hosts;
 use crate::listed::{list_place, listed_for};

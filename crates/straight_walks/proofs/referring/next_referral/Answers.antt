@@ -18,15 +18,15 @@ returns-then-not-all_end_outside c =
     let queue = c.args.queue.now in (
       c.loop-passed.invariant.later,
       c.loop-passed-test.true,
-      subst (λ (found : Option Queued). IfSome found (λ one. IsReply c.args.hosts.now one.server.now c.args.query.now (reply.Refers c.in-Refers.tree c.in-Refers.cut)))
+      subst (λ (found : Option Queued). IfSome found (λ one. IsReply c.args.asked.hosts.now one.server.now c.args.asked.name.now (reply.Refers c.in-Refers.tree c.in-Refers.cut)))
           (sym (slice_get_read queue (length queue) c.loop-passed.passed c.index-queue-passed.result refl c.loop-passed-test.true c.index-queue-passed.is)) c.in-Refers.ensures,
       c.loop-passed.invariant.searched,
     )
 
 pub loop-passed-preserved : goal.loop-passed-preserved
 loop-passed-preserved c =
-    let config = c.args.hosts.now in
-    let query = c.args.query.now in
+    let config = c.args.asked.hosts.now in
+    let query = c.args.asked.name.now in
     let queue = c.args.queue.now in
     let passed = c.loop-passed.passed in
     let ends = c.loop-passed.ends in
@@ -56,6 +56,6 @@ loop-passed-preserved c =
 pub returns : goal.returns
 returns c = λ deps so most few name found of setting is enough rtype.
     let ends = c.loop-passed.ends in
-    let same : found.rewrites ≡ ends.rewrites = same_rewrites c.args.hosts.now deps c.args.query.now ends name found of in
-    all_passed c.args.hosts.now deps name c.args.queue.now c.loop-passed.passed most found (c.loop-passed.invariant.searched deps so name found of)
+    let same : found.rewrites ≡ ends.rewrites = same_rewrites c.args.asked.hosts.now deps c.args.asked.name.now ends name found of in
+    all_passed c.args.asked.hosts.now deps name c.args.queue.now c.loop-passed.passed most found (c.loop-passed.invariant.searched deps so name found of)
     (omega (arith, c.loop-passed-test.false)) (subst (λ (n : ℕ). length c.args.queue.now * (n + 1) ≤ most) (sym same) few) setting is (omega (arith, same, enough)) rtype

@@ -7,7 +7,7 @@ use Rattle.straight_walks.proofs.referring.next_referral.Given as goal
 abbrev pub invariant-loop-passed : goal.invariant-loop-passed
 invariant-loop-passed l = record {
   later : l.initial.passed ≤ l.passed;
-  searched : (deps : Deps) → HavePassed l.hosts deps l.query l.queue l.initial.passed l.initial.ends → HavePassed l.hosts deps l.query l.queue l.passed l.ends;
+  searched : (deps : Deps) → HavePassed l.asked.hosts.now deps l.asked.name.now l.queue l.initial.passed l.initial.ends → HavePassed l.asked.hosts.now deps l.asked.name.now l.queue l.passed l.ends;
 }
 
 abbrev pub decreases-loop-passed : goal.decreases-loop-passed

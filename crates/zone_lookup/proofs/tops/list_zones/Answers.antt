@@ -2,7 +2,7 @@ use Rattle.std.proofs.Common.{List, ◌∷◌, [], ◌++◌, map, take, ap, sym,
 use Rattle.std.proofs.lemmas.List.{map-append, take_all, take_more}
 use Rattle.dns_data.specs.Name.{Labels}
 use Rattle.net_model.specs.declared.config.Zone.{Zone}
-use Rattle.zone_lookup.specs.Listed.{IsListedFor}
+use Rattle.zone_lookup.specs.ListedFor.{IsListedFor}
 use Rattle.zone_lookup.proofs.TopsHolding.{listed_more, listed_none}
 use Rattle.zone_lookup.proofs.tops.list_zones.Goals as goal
 

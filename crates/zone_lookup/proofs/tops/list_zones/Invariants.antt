@@ -1,5 +1,5 @@
 use Rattle.std.proofs.Common.{map, take}
-use Rattle.zone_lookup.specs.Listed.{IsListedFor}
+use Rattle.zone_lookup.specs.ListedFor.{IsListedFor}
 use Rattle.zone_lookup.proofs.tops.list_zones.Given as goal
 
 -- listed for the origins of the zones so far

@@ -2,7 +2,7 @@ use Rattle.std.proofs.Common.{◌≡◌, ℕ, List, length, ap, sym, ◌∙◌, 
 use Rattle.std.proofs.lemmas.Option.{slice_get-get_or}
 use Rattle.dns_data.specs.Name.{Labels}
 use Rattle.address_deps.specs.declared.told.AddressTold.{AddressTold}
-use Rattle.zone_lookup.specs.Listed.{IsListedFor}
+use Rattle.zone_lookup.specs.ListedFor.{IsListedFor}
 use Rattle.address_deps.specs.Dependents.{AreDependents}
 use Rattle.zone_lookup.proofs.TopsHolding.{none_listed}
 use Rattle.address_deps.proofs.Listing.{more_dependents, borrowed_names, no_dependents}

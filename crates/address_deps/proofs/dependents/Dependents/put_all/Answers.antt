@@ -2,7 +2,7 @@ use Rattle.std.proofs.Common.{List, ◌∷◌, [], ◌++◌, take, ap, sym, ◌�
 use Rattle.std.proofs.lemmas.List.{map-append, take_all, take_more}
 use denote.Bor.{Bor}
 use Rattle.dns_data.specs.Name.{Labels}
-use Rattle.zone_lookup.specs.Listed.{IsListedFor}
+use Rattle.zone_lookup.specs.ListedFor.{IsListedFor}
 use Rattle.zone_lookup.proofs.TopsHolding.{listed_more, listed_none}
 use Rattle.address_deps.proofs.Listing.{borrowed_names}
 use Rattle.address_deps.proofs.dependents.Dependents.put_all.Goals as goal

@@ -1,5 +1,5 @@
 use Rattle.std.proofs.Common.{map, take}
-use Rattle.zone_lookup.specs.Listed.{IsListedFor}
+use Rattle.zone_lookup.specs.ListedFor.{IsListedFor}
 use Rattle.address_deps.proofs.dependents.Dependents.put_all.Given as goal
 
 -- listed for the names so far

@@ -1,4 +1,7 @@
-use Rattle.std.proofs.Common.{List, ◌++◌, take_all, ap, ◌∙◌, subst}
+use Rattle.std.proofs.Common.{◌≡◌, List, [], ◌++◌, take_all, sym, ap, ◌∙◌, subst, arith}
+use Rattle.std.proofs.lemmas.Bool.Decides.{nat_tests}
+use Rattle.std.proofs.lemmas.List.{nil_from_length}
+use Rattle.dns_data.proofs.Membership.{none_in_nil}
 use Rattle.dns_data.specs.declared.rr_type.RrType.TheVariants as types
 use Rattle.graph_form.specs.Branches.{with_type}
 use Rattle.graph_form.specs.Verdict.{AreFirstTypes}
@@ -7,6 +10,22 @@ use Rattle.straight_walks.specs.Faulty.{faults_at, faulty_cut, flag_faults}
 use Rattle.straight_walks.specs.declared.faulty.Faulty.{Faulty}
 use Rattle.straight_walks.proofs.ShownFaults.{one_more}
 use Rattle.straight_walks.proofs.ends.StraightEnds.shown.Goals as goal
+
+-- nothing has no types
+none_first : AreFirstTypes [] []
+none_first = record {
+  ordered = λ i j d low high. absurd (omega (arith, high));
+  from = λ seen has. has;
+  covers = λ seen has. absurd (none_in_nil seen has);
+}
+
+pub returns-then-is_empty : goal.returns-then-is_empty
+returns-then-is_empty c =
+    let query = c.args.query.now in
+    let items : c.as_slice.result.now ≡ [] = nil_from_length c.as_slice.result.now (grind (arith, nat_tests, c.is_empty.ensures, c.if-is_empty.true)) in
+    let none : c.args.self.now.faulty.items ≡ [] = sym c.as_slice.ensures.value ∙ items in
+    subst (λ (all : List Faulty). AreFirstTypes (with_type types.A (faults_at query all)) c.new.result) (sym none)
+    (subst (AreFirstTypes []) (sym c.new.ensures) none_first)
 
 pub loop-one-preserved : goal.loop-one-preserved
 loop-one-preserved c =

@@ -31,6 +31,6 @@ returns-then-is_claimed g c =
     let at = item_at g.W.Work.first_item g.W.Work.children_of g.W.Work.verdict_of g.met.W.Work.parents_apart _ _ rows _ _ _ c.self.invariant t there.0 there.1 in
     let row_is = ap (λ (r : Row g.row.W-Item.Denot g.row.W-Verdict.Denot). r.item) (c.index.ensures ∙ get_or_from_slice_get rows t there.0 _ there.1) in
     let item = row_is ∙ sym (get_or_from_slice_get (items_of first g.W.Work.children_of c.self.inside.history.items) t there.0.item first at) ∙ ap (λ (p : Pages). item_of first g.W.Work.children_of p.history t) c.self.view_is in
-    c.is_eq.ensures
-    ∙ ap is_eq (c.cmp.ensures ∙ ap (λ i. cmp i other) item)
+    c.are_same.ensures
+    ∙ ap (λ i. is_eq (cmp i other)) item
     ∙ ap (λ b. b && is_eq (cmp (item_of first g.W.Work.children_of c.args.self.now.history t) other)) (sym claimed)
