@@ -1,5 +1,5 @@
 #!/usr/bin/env python3
-"""Runs groot, groot-map and groot-parts on all cases and examples: run.py [--program GROOT] [--map GROOT-MAP] [--parts GROOT-PARTS] [WORD ..]
+"""Runs groot, groot-large, groot-map and groot-parts on all cases and examples: run.py [--program GROOT] [--large GROOT-LARGE] [--map GROOT-MAP] [--parts GROOT-PARTS] [WORD ..]
 
 It builds each program once, with `rt run` in its crate, unless it is given. With words it runs those cases and
 examples alone whose subject is one of them, or whose name has one in it. For each that goes another way than it says, it prints a line and a diff,
@@ -29,8 +29,8 @@ def contents(*path):
 
 HEAD = contents("cases", "head.zone")
 METADATA = contents("cases", "metadata.json")
-USAGE = {"groot": contents("cases", "usage.txt"), "groot_map": contents("cases", "usage-map.txt"), "groot_parts": contents("cases", "usage-parts.txt")}
-PROGRAMS = {"--program": "groot", "--map": "groot_map", "--parts": "groot_parts"}
+USAGE = {"groot": contents("cases", "usage.txt"), "groot_large": contents("cases", "usage-large.txt"), "groot_map": contents("cases", "usage-map.txt"), "groot_parts": contents("cases", "usage-parts.txt")}
+PROGRAMS = {"--program": "groot", "--large": "groot_large", "--map": "groot_map", "--parts": "groot_parts"}
 
 
 class Case:
@@ -95,6 +95,8 @@ def put(case, key, name, text):
         case.cuts = (name, text)
     elif key == "args":
         case.words = shlex.split(name)
+    elif key == "large":
+        case.program, case.words = "groot_large", shlex.split(name)
     elif key == "map":
         case.program, case.words = "groot_map", shlex.split(name)
     elif key == "parts":

@@ -31,13 +31,14 @@ _groot() {
     COMPREPLY=()
     if ((COMP_CWORD == 1)); then
         words="check ask classes drill site recheck same scope"
+        [[ ${COMP_WORDS[0]##*/} != groot-large ]] || words+=" scopes"
     elif [[ $before == -* || $before == = ]]; then
         return
     elif [[ $word == -* ]]; then
         words=$(_groot_options "$command")
     else
         case $command:$(_groot_operands) in
-            check:0 | classes:0 | ask:0 | site:0 | recheck:[01] | same:[01] | scope:0) _groot_files "$word" ; return ;;
+            check:0 | classes:0 | ask:0 | site:0 | recheck:[01] | same:[01] | scope:0 | scopes:[01]) _groot_files "$word" ; return ;;
             ask:2) words="A NS CNAME SOA PTR HINFO MX TXT AAAA SRV DNAME CAA" ;;
         esac
     fi

@@ -11,6 +11,7 @@ _groot_commands=(
     'same:say whether any query notices a change'
     'scope:report on the queries at or below a name'
 )
+_groot_commands_of_large=('scopes:report on the queries at or below each name of a file')
 _groot_lists=(
     'records:file and line of each record'
     'reached:rows that a query reaches'
@@ -52,7 +53,10 @@ _groot_words() {
     typeset -A opt_args
     _arguments -C '1:command:->command' '*::operand:->operand'
     case $state in
-        command) _describe 'command' _groot_commands ;;
+        command)
+            _describe 'command' _groot_commands
+            [[ $service != groot-large ]] || _describe 'command' _groot_commands_of_large
+            ;;
         operand)
             case $words[1] in
                 check) _arguments $_groot_limits '1:metadata:_files' ;;
@@ -63,6 +67,7 @@ _groot_words() {
                 recheck) _arguments '1:metadata:_files' '2:report:_files' ;;
                 same) _arguments '1:metadata before:_files' '2:metadata after:_files' ;;
                 scope) _arguments '1:metadata:_files' '2:name:' ;;
+                scopes) _arguments '1:metadata:_files' '2:names:_files' ;;
             esac
             ;;
     esac

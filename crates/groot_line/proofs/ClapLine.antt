@@ -11,7 +11,7 @@ use Rattle.groot_line.specs.Command.{has_option}
 use Rattle.groot_line.specs.Line.{command_line, operands_rule, option_rule}
 use Rattle.groot_line.specs.LineOption.{option_name}
 use Rattle.groot_line.specs.declared.command.Command.{Command}
-use Rattle.groot_line.specs.declared.command.Command.TheVariants.{Check, Ask, Classes, Drill, Site, Recheck, Same, Scope}
+use Rattle.groot_line.specs.declared.command.Command.TheVariants.{Check, Ask, Classes, Drill, Site, Recheck, Same, Scope, Scopes}
 use Rattle.groot_line.specs.declared.line_option.LineOption.{LineOption}
 use Rattle.groot_line.specs.declared.line_option.LineOption.TheVariants as options
 
@@ -33,6 +33,7 @@ rules Site = operands_built ∷ []
 rules Recheck = operands_built ∷ []
 rules Same = operands_built ∷ []
 rules Scope = operands_built ∷ []
+rules Scopes = operands_built ∷ []
 
 -- what else `clap` has built
 abbrev pub line_shape : List Rule → Shape
@@ -48,6 +49,7 @@ is_free Site = refl
 is_free Recheck = refl
 is_free Same = refl
 is_free Scope = refl
+is_free Scopes = refl
 
 -- the command line of each command is simple, in `clap`'s sense: its definitions give the matches
 pub is_plain : (command : Command) → is_simple (command_line command) ≡ true
@@ -59,6 +61,7 @@ is_plain Site = refl
 is_plain Recheck = refl
 is_plain Same = refl
 is_plain Scope = refl
+is_plain Scopes = refl
 
 -- the option with this name
 pub by_long : (command : Command) (name : Text) → arg_by_long (rules command) name ≡ option_map option_built (option_named command name)
@@ -84,6 +87,7 @@ by_long Site name = refl
 by_long Recheck name = refl
 by_long Same name = refl
 by_long Scope name = refl
+by_long Scopes name = refl
 
 -- an option that the command has is found under its name
 pub by_option : (command : Command) (o : LineOption) → has_option command o ≡ true → arg_by_id (rules command) (option_name o) ≡ Some (option_built o)
@@ -101,6 +105,7 @@ by_option Site o has = absurd (true≢false (sym has))
 by_option Recheck o has = absurd (true≢false (sym has))
 by_option Same o has = absurd (true≢false (sym has))
 by_option Scope o has = absurd (true≢false (sym has))
+by_option Scopes o has = absurd (true≢false (sym has))
 
 -- the operands are found under their name
 pub by_operands : (command : Command) → arg_by_id (rules command) (codes "operands") ≡ Some operands_built
@@ -112,6 +117,7 @@ by_operands Site = refl
 by_operands Recheck = refl
 by_operands Same = refl
 by_operands Scope = refl
+by_operands Scopes = refl
 
 -- the first operand's argument is that of all operands
 pub by_index : (command : Command) → arg_by_index (rules command) 1 ≡ Some operands_built
@@ -123,6 +129,7 @@ by_index Site = refl
 by_index Recheck = refl
 by_index Same = refl
 by_index Scope = refl
+by_index Scopes = refl
 
 -- the option that a name gives is one of the command
 pub named_has : (command : Command) (name : Text) (o : LineOption) → option_named command name ≡ Some o → has_option command o ≡ true
@@ -140,6 +147,7 @@ named_has Site name o e = cc
 named_has Recheck name o e = cc
 named_has Same name o e = cc
 named_has Scope name o e = cc
+named_has Scopes name o e = cc
 
 -- ---- after the words
 
@@ -168,6 +176,7 @@ rows_end Site rows = no_operand rows
 rows_end Recheck rows = no_operand rows
 rows_end Same rows = no_operand rows
 rows_end Scope rows = no_operand rows
+rows_end Scopes rows = no_operand rows
 
 option_passes : (rows : List Row) (o : LineOption) → default_fault rows (option_built o) ≡ []
 option_passes rows o = ap (λ b. cond b [] (given_default_fault (option_built o) (option_built o).defaults)) (or_true (has_row (option_name o) rows))
@@ -190,6 +199,7 @@ defaults_pass Site rows = past _ _ (operands_pass rows)
 defaults_pass Recheck rows = past _ _ (operands_pass rows)
 defaults_pass Same rows = past _ _ (operands_pass rows)
 defaults_pass Scope rows = past _ _ (operands_pass rows)
+defaults_pass Scopes rows = past _ _ (operands_pass rows)
 
 -- no argument is required at the end
 pub nothing_required : (command : Command) (rows : List Row) → check_fault (line_shape (rules command)) rows false ≡ []
@@ -201,3 +211,4 @@ nothing_required Site rows = refl
 nothing_required Recheck rows = refl
 nothing_required Same rows = refl
 nothing_required Scope rows = refl
+nothing_required Scopes rows = refl

@@ -23,7 +23,7 @@ use Rattle.groot_line.specs.Line.{command_line}
 use Rattle.groot_line.specs.LineOption.{option_name}
 use Rattle.groot_line.specs.Matches.{refusal_by, is_in_form, operands_in, arguments_in}
 use Rattle.groot_line.specs.declared.command.Command.{Command}
-use Rattle.groot_line.specs.declared.command.Command.TheVariants.{Check, Ask, Classes, Drill, Site, Recheck, Same, Scope}
+use Rattle.groot_line.specs.declared.command.Command.TheVariants.{Check, Ask, Classes, Drill, Site, Recheck, Same, Scope, Scopes}
 use Rattle.groot_line.specs.declared.fault.LineFault.{LineFault}
 use Rattle.groot_line.specs.declared.fault.LineFault.TheVariants.{Usage, NoMemory}
 use Rattle.groot_line.specs.declared.line_option.LineOption.{LineOption}
@@ -294,6 +294,7 @@ fault_is command words = at_line command ∙ at_level where
   at_line Recheck = leaf_fault (built (command_line Recheck)) nothing_held words refl
   at_line Same = leaf_fault (built (command_line Same)) nothing_held words refl
   at_line Scope = leaf_fault (built (command_line Scope)) nothing_held words refl
+  at_line Scopes = leaf_fault (built (command_line Scopes)) nothing_held words refl
 
   end : Held
   end = end_of c (walk_at [] None idle) words
@@ -314,6 +315,7 @@ rows_are command words = at_line command ∙ rows_end command _ where
   at_line Recheck = refl
   at_line Same = refl
   at_line Scope = refl
+  at_line Scopes = refl
 
 -- ---- what matches say
 

@@ -105,12 +105,13 @@ job_by_in program commands.Site arguments = through (AreInRange program) (only_m
 job_by_in program commands.Recheck arguments = through (AreInRange program) (two_files arguments.operands) _ (λ files. tt)
 job_by_in program commands.Same arguments = through (AreInRange program) (two_files arguments.operands) _ (λ files. tt)
 job_by_in program commands.Scope arguments = asked_scope_in program arguments.operands
+job_by_in program commands.Scopes arguments = through (AreInRange program) (two_files arguments.operands) _ (λ files. tt)
 
 -- the numbers of the job that words ask for are in their ranges
 in_range : (program : Program) (words : List (List ℕ)) → IfOk (job_asked program words) (AreInRange program)
 in_range program [] = tt
 in_range program (word ∷ words) =
-    through (AreInRange program) (ok_or (command_of word) Usage) _
+    through (AreInRange program) (ok_or (command_of program word) Usage) _
     (λ command. through (AreInRange program) (arguments_of command words) _ (λ arguments. job_by_in program command arguments))
 
 -- the numbers of a job that words ask for are in their ranges

@@ -5,7 +5,7 @@ use Rattle.groot_line.specs.Job.{job_asked, job_of}
 use Rattle.groot_line.specs.declared.fault.LineFault.{LineFault}
 use Rattle.groot_line.specs.declared.fault.LineFault.TheVariants.{Usage}
 use Rattle.groot_line.specs.declared.job.Job.{Job}
-use Rattle.groot_line.specs.declared.job.Job.TheVariants.{OfConfig, Drill, Recheck, Same}
+use Rattle.groot_line.specs.declared.job.Job.TheVariants.{OfConfig, Drill, Recheck, Same, Scopes}
 use Rattle.groot_line.specs.declared.job.Task.TheVariants.{Check, Ask, Classes, Site, Scope}
 use Rattle.groot_line.specs.declared.program.Program.TheVariants.{GrootLarge}
 
@@ -185,6 +185,10 @@ scope_with_a_type = refl
 classes_of_a_scope : said (codes "scope") (codes "m.json" ∷ codes "." ∷ codes "--classes=5" ∷ []) ≡ Err Usage
 classes_of_a_scope = refl
 
+-- `groot` has no scopes of a file's names
+scopes_of_groot : said (codes "scopes") (codes "m.json" ∷ codes "names" ∷ []) ≡ Err Usage
+scopes_of_groot = refl
+
 -- a command in another case
 upper_case : said (codes "CHECK") (codes "m.json" ∷ []) ≡ Err Usage
 upper_case = refl
@@ -208,6 +212,26 @@ one_name_more = refl
 sixty_five_workers : large (codes "--workers=65" ∷ []) ≡ Err Usage
 unfolding large
 sixty_five_workers = refl
+
+-- `groot-large` has them, with a metadata file and the file of names; neither word is empty, and there is no option
+large_scopes : List (List ℕ) → Result Job LineFault
+large_scopes words = job_asked GrootLarge (codes "scopes" ∷ codes "m.json" ∷ words)
+
+plain_scopes : large_scopes (codes "names" ∷ []) ≡ Ok (Scopes (codes "m.json") (codes "names"))
+unfolding large_scopes
+plain_scopes = refl
+
+scopes_without_names : large_scopes [] ≡ Err Usage
+unfolding large_scopes
+scopes_without_names = refl
+
+scopes_of_an_empty_word : large_scopes ([] ∷ []) ≡ Err Usage
+unfolding large_scopes
+scopes_of_an_empty_word = refl
+
+workers_of_scopes : large_scopes (codes "names" ∷ codes "--workers=2" ∷ []) ≡ Err Usage
+unfolding large_scopes
+workers_of_scopes = refl
 
 -- `groot` has no more than a million names
 a_name_past_the_million : check (codes "--classes=1000001" ∷ []) ≡ Err Usage

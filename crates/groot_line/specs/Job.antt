@@ -11,7 +11,7 @@ use Rattle.groot_line.specs.declared.command.Command.TheVariants as commands
 use Rattle.groot_line.specs.declared.fault.LineFault.{LineFault}
 use Rattle.groot_line.specs.declared.fault.LineFault.TheVariants.{Usage}
 use Rattle.groot_line.specs.declared.job.Job.{Job}
-use Rattle.groot_line.specs.declared.job.Job.TheVariants.{OfConfig, Drill, Recheck, Same}
+use Rattle.groot_line.specs.declared.job.Job.TheVariants.{OfConfig, Drill, Recheck, Same, Scopes}
 use Rattle.groot_line.specs.declared.job.Task.{Task}
 use Rattle.groot_line.specs.declared.job.Task.TheVariants.{Check, Ask, Classes, Site, Scope}
 use Rattle.groot_line.specs.declared.line_option.LineOption.TheVariants as options
@@ -62,12 +62,15 @@ job_by program commands.Same arguments = do
   files ← two_files arguments.operands
   Ok (Same files.0 files.1)
 job_by program commands.Scope arguments = asked_scope arguments.operands
+job_by program commands.Scopes arguments = do
+  files ← two_files arguments.operands
+  Ok (Scopes files.0 files.1)
 
 -- the job that the words ask of the program
 abbrev pub job_asked : Program → List (List ℕ) → Result Job LineFault
 job_asked program [] = Err Usage
 job_asked program (word ∷ words) = do
-  command ← ok_or (command_of word) Usage
+  command ← ok_or (command_of program word) Usage
   arguments ← arguments_of command words
   job_by program command arguments
 
@@ -94,3 +97,4 @@ AreInRange program (OfConfig meta task) = IsTaskInRange program task
 AreInRange program (Drill n workers) = InRange most_zones n × InRange (most_of program options.Workers) workers
 AreInRange program (Recheck meta report) = Unit {0}
 AreInRange program (Same first second) = Unit {0}
+AreInRange program (Scopes meta names) = Unit {0}

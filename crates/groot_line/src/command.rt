@@ -1,9 +1,10 @@
 //! The commands.
 
 ghost use Rattle.std.specs.Prelude.{◌≡◌};
-ghost use Rattle.groot_line.specs.Command.{command_word, command_of, has_option};
+ghost use Rattle.groot_line.specs.Command.{command_word, command_of, has_command, has_option};
 
 use crate::line_option::LineOption;
+use crate::program::Program;
 
 /// What the first word asks for.
 #[derive(Clone, Copy, Debug, PartialEq, Eq)]
@@ -24,11 +25,13 @@ pub(crate) enum Command {
     Same,
     /// The report on the queries at or below a name.
     Scope,
+    /// Such a report for each name of a file.
+    Scopes,
 }
 
 impl Command {
-    /// The commands that the program has.
-    const ALL: [Command; 8] = [
+    /// All commands.
+    const ALL: [Command; 9] = [
         Command::Check,
         Command::Ask,
         Command::Classes,
@@ -37,6 +40,7 @@ impl Command {
         Command::Recheck,
         Command::Same,
         Command::Scope,
+        Command::Scopes,
     ];
 
     /// The command's word.
@@ -52,17 +56,26 @@ impl Command {
             Command::Recheck => "recheck",
             Command::Same => "same",
             Command::Scope => "scope",
+            Command::Scopes => "scopes",
         }
     }
 
     /// The command with this word, if the program has it. The word is compared as written.
-    pub(crate) fn from_word(word: &[u8]) -> Option<Command>
-        ensures { result ≡ command_of word.now }
+    pub(crate) fn from_word(program: Program, word: &[u8]) -> Option<Command>
+        ensures { result ≡ command_of program word.now }
     {
-        Command::ALL
-            .iter()
-            .copied()
-            .find(|command| word == command.word().as_bytes())
+        Command::ALL.iter().copied().find(|command| command.is_of(program)
+            && word == command.word().as_bytes())
+    }
+
+    /// Whether the program has the command.
+    fn is_of(&self, program: Program) -> bool
+        ensures { result ≡ has_command program self.now }
+    {
+        match (program, self) {
+            (Program::Groot, Command::Scopes) => false,
+            _ => true,
+        }
     }
 
     /// Whether the command has the option.

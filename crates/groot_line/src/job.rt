@@ -26,6 +26,8 @@ pub enum Job {
     Recheck { meta: Text, report: Text },
     /// Whether the configurations that two metadata files give have the same answers.
     Same { first: Text, second: Text },
+    /// The reports on the queries at or below each name of a file, in the configuration that a metadata file gives.
+    Scopes { meta: Text, names: Text },
 }
 
 /// What is asked of one configuration.
@@ -68,7 +70,7 @@ pub fn read_words_of(alloc: Global, program: Program, words: &[&str]) -> Result<
     let [first, words @ ..] = words else {
         return Err(LineFault::Usage);
     };
-    let Some(command) = Command::from_word(first.as_bytes()) else {
+    let Some(command) = Command::from_word(program, first.as_bytes()) else {
         return Err(LineFault::Usage);
     };
     let matches = read_arguments(alloc, command, words)?;
@@ -118,6 +120,10 @@ fn job_by(
             Ok(Job::Same { first, second })
         }
         Command::Scope => asked_scope(alloc, operands),
+        Command::Scopes => {
+            let (meta, names) = two_files(alloc, operands)?;
+            Ok(Job::Scopes { meta, names })
+        }
     }
 }
 

@@ -2,7 +2,8 @@
 //!
 //! The layer above may rest on this: what `read_words_of` answers is what the definition `job_asked` says of the words: the
 //! job that they ask of the program, and `Usage` for all words that the format doesn't have. `groot` and `groot-large` read
-//! the same words, but for the most and the usual number of names, and for how many digits a number has.
+//! the same words, but for the most and the usual number of names, for how many digits a number has, and for `scopes`,
+//! which `groot-large` alone has.
 //!
 //! Costs: `clap` is told the command and its options in each call, and goes over the words once; what a job keeps of
 //! them is copied.

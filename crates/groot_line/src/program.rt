@@ -6,7 +6,7 @@ ghost use Rattle.groot_line.specs.Program.{largest_names, most_digits, most_name
 /// The most names that a class tree may be allowed to have, whatever the program: they are counted in 31 bits.
 const LARGEST_NAMES: u32 = 2_147_483_647;
 
-/// Which program reads the words. They have the same commands and options.
+/// Which program reads the words. They have the same commands and options, but for `scopes`, which `groot-large` alone has.
 #[derive(Clone, Copy, Debug, PartialEq, Eq)]
 pub enum Program {
     /// `groot`, whose numbers keep a run small.

@@ -13,6 +13,6 @@ pub fn usage_line(program: Program) -> &'static str
         Program::Groot =>
             "usage: groot check META [--workers N] [--classes N] [--rewrites K] | ask META NAME TYPE | classes META [--classes N] | drill N [--workers N] | site META | recheck META REPORT | same META META | scope META NAME\n",
         Program::GrootLarge =>
-            "usage: groot-large check META [--workers N] [--classes N] [--rewrites K] | ask META NAME TYPE | classes META [--classes N] | drill N [--workers N] | site META | recheck META REPORT | same META META | scope META NAME\n",
+            "usage: groot-large check META [--workers N] [--classes N] [--rewrites K] | ask META NAME TYPE | classes META [--classes N] | drill N [--workers N] | site META | recheck META REPORT | same META META | scope META NAME | scopes META FILE\n",
     }
 }

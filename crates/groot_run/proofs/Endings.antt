@@ -1,5 +1,5 @@
 -- How the run of a job ends is how the run of its words ends.
-use Rattle.std.proofs.Common.{◌≡◌, ℕ, List, [], ◌∷◌, Result, Ok, Err, sym, subst, inl, inr, refl}
+use Rattle.std.proofs.Common.{◌≡◌, ℕ, false, List, [], ◌∷◌, ◌++◌, Result, Ok, Err, sym, subst, inl, inr, refl, true≢false}
 use Rattle.std.specs.Prelude.{◌⊎◌, codes}
 use Rattle.config_load.specs.Load.{NoFailureIn}
 use Rattle.config_load.specs.Reading.{Reading, Reads, file_octets}
@@ -36,9 +36,14 @@ use Rattle.run_endings.proofs.AsAsked.{Says, SaysSo, as_asked as ended, over_non
 use Rattle.run_endings.specs.Runs.{Ends}
 use Rattle.groot_run.specs.Counted.{EndsPast}
 use Rattle.groot_run.specs.JobEnds.{JobEnds, EndsOverConfig, EndsWithoutConfig}
-use Rattle.run_endings.specs.Endings.{OfReading, no_memory}
-use Rattle.groot_run.specs.Outcome.{status_of, HasMoreNames, WithinBudgets, WithinNames, WithinStates, IsReported, Checks, ListsClasses, IsAnswerWith, Asks, IsDrilled, Drills, drill_rewrites, TellsFindings, site_rewrites, answered_to, IsRechecked, Rechecks, GivesOf, Outcome, JobComesTo, JobOpensNoOther, NoJobReadFailed, Compares, ComparesWith, HasMoreNamesInBoth, IsCompared, compared_of, told_same, HasMoreNamesAt, IsScoped, ScopesSubject, scope_of, usage}
+use Rattle.run_endings.specs.Endings.{OfReading, no_memory, with_output, writes_nothing}
+use Rattle.run_endings.specs.declared.status.Status.{Status}
+use Rattle.run_endings.specs.declared.status.Status.TheVariants.{Clean, Faults, WriteFault}
+use Rattle.groot_run.specs.Outcome.{status_of, HasMoreNames, WithinBudgets, WithinNames, WithinStates, IsReported, Checks, ListsClasses, IsAnswerWith, Asks, IsDrilled, Drills, drill_rewrites, TellsFindings, site_rewrites, answered_to, IsRechecked, Rechecks, GivesOf, Outcome, JobComesTo, JobOpensNoOther, NoJobReadFailed, Compares, ComparesWith, HasMoreNamesInBoth, IsCompared, compared_of, told_same, HasMoreNamesAt, IsScoped, ScopesSubject, scope_of, EndsBehind, Scopes, ScopesNames, ScopesOf, with_scope, own_sites, worse, usage}
+use Rattle.groot_run.specs.NameList.{names_of}
 use Rattle.groot_run.specs.Programs.{conf_of, limits_of}
+use Rattle.groot_run.specs.declared.name_list.ListFault.{ListFault}
+use Rattle.groot_run.specs.declared.name_list.ListFault.TheVariants as list_faults
 
 -- ---- by what the files give
 
@@ -76,10 +81,32 @@ module _ (program : Program) (told : FilesTold) (said : Result Job LineFault) (s
       let subject = whole_config config rewrites in
       within limit (HasMoreNames config limit) (IsFirstPassed subject most_states) (SomeClassPasses subject most_states → ⊥)
 
-  of_scope : (limit : ℕ) (subject : Subject) (ending : Ending) → ScopesSubject limit subject sites ending → SaysSo ending
-  of_scope limit subject ending =
-      within limit (HasMoreNamesAt subject limit) (IsRefusedFor subject most_states) (NonePasses subject most_states) (IsScoped subject sites ending) ending
+  of_scope : (limit : ℕ) (subject : Subject) (shown : List Site) (ending : Ending) → ScopesSubject limit subject shown ending → SaysSo ending
+  of_scope limit subject shown ending =
+      within limit (HasMoreNamesAt subject limit) (IsRefusedFor subject most_states) (NonePasses subject most_states) (IsScoped subject shown ending) ending
       (λ is. subst SaysSo (sym is.as_text) (of_entries is.report.entries _))
+
+  -- behind a text that is written with the status of a report another may be
+  goes_on : (first second : Status) (out text : List ℕ) → Says second out → writes_nothing second ≡ false → Says (worse first second) text
+  goes_on Clean Clean out text says written = tt
+  goes_on Clean Faults out text says written = tt
+  goes_on Clean WriteFault out text says written = absurd says
+  goes_on Clean other out text says written = absurd (true≢false written)
+  goes_on first second out text says written = tt
+
+  of_scopes : (limit : ℕ) (config : Config) (so_far : Ending) (names : List (List (List ℕ))) (ending : Ending) → SaysSo so_far
+      → EndsBehind (λ name. Scopes limit name own_sites config) so_far names ending → SaysSo ending
+  of_scopes limit config so_far [] ending told is = subst SaysSo (sym is) told
+  of_scopes limit config so_far (name ∷ names) ending told (scope, gives, inl (silent, is)) = subst SaysSo (sym is) (of_scope limit (scope_of config name) own_sites scope gives)
+  of_scopes limit config so_far (name ∷ names) ending told (scope, gives, inr (written, rest)) =
+      of_scopes limit config (with_scope so_far scope) names ending
+      (goes_on so_far.status scope.status scope.out (so_far.out ++ scope.out) (of_scope limit (scope_of config name) own_sites scope gives) written) rest
+
+  of_names : (limit : ℕ) (file : List ℕ) (config : Config) (names : Result (List (List (List ℕ))) ListFault) (ending : Ending)
+      → ScopesNames limit file config names ending → SaysSo ending
+  of_names limit file config (Ok names) ending ends = of_scopes limit config (with_output Clean []) names ending tt ends
+  of_names limit file config (Err (list_faults.NotName line)) ending is = subst SaysSo (sym is) refl
+  of_names limit file config (Err list_faults.NoMemory) ending is = subst SaysSo (sym is) refl
 
   a_comparison : (limit : ℕ) (two : Compared) (ending : Ending) → Compares limit two ending → SaysSo ending
   a_comparison limit two ending =
@@ -118,7 +145,7 @@ module _ (program : Program) (told : FilesTold) (said : Result Job LineFault) (s
   of_task tasks.Site ending config =
       of_classes config (usual_names program) site_rewrites (TellsFindings config sites ending) ending (λ are. subst SaysSo (sym are.as_text) tt)
   of_task (tasks.Scope name) ending config =
-      of_scope (usual_names program) (scope_of config name) ending
+      of_scope (usual_names program) (scope_of config name) sites ending
 
   of_outcome : (files : FilesTold) (job : Result Job LineFault) (ending : Ending) → Outcome program files job sites ending → SaysSo ending
   of_outcome files (Ok (jobs.OfConfig meta task)) ending = reading_says meta (GivesOf program task sites) ending (of_task task ending) (conf_of program meta files)
@@ -135,6 +162,11 @@ module _ (program : Program) (told : FilesTold) (said : Result Job LineFault) (s
       (λ config. reading_says second (λ other. Compares (usual_names program) (compared_of config other)) ending
       (λ other. a_comparison (usual_names program) (compared_of config other) ending) (conf_of program second files))
       (conf_of program first files)
+  of_outcome files (Ok (jobs.Scopes meta names)) ending =
+      reading_says meta (ScopesOf program files names) ending
+      (λ config. reading_says names (λ octets. ScopesNames (usual_names program) names config (names_of octets)) ending
+      (λ octets. of_names (usual_names program) names config (names_of octets) ending) (file_octets (limits_of program) names files))
+      (conf_of program meta files)
   of_outcome files (Err fault) ending = λ is. subst SaysSo (sym is) refl
 
   -- how the run of a job ends that the words ask for

@@ -8,6 +8,7 @@ pub mod HandedChecks
 pub mod HeldViews
 pub mod JudgedTrees
 mod KeptPieces
+mod NameLists
 pub mod OneClassList
 pub mod OneEntry
 pub mod OneOutcome
@@ -17,6 +18,8 @@ pub mod PassedNames
 pub mod Places
 pub mod Rechecked
 pub mod SameWords
+mod ScopeTexts
 pub mod ShownClasses
 pub mod SiteViews
 pub mod TwoReadings
+mod Watched

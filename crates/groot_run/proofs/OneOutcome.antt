@@ -1,7 +1,7 @@
 -- A job has at most one outcome: what the files give is one, a configuration has one class tree and one report.
 use Rattle.zone_maker.specs.Source.{drill_told}
+use Rattle.std.proofs.Common.{◌≡◌, ℕ, List, Result, Ok, Err, [], ◌∷◌, length, subst, sym, ap, ◌∙◌, inl, inr, true≢false}
 use Rattle.std.specs.Prelude.{codes}
-use Rattle.std.proofs.Common.{◌≡◌, ℕ, List, Result, Ok, Err, [], length, subst, sym, ap, ◌∙◌, inl, inr}
 use Rattle.io_edges.specs.Files.{FilesTold}
 use Rattle.dns_data.specs.Name.{Labels}
 use Rattle.dns_data.specs.declared.rr_type.RrType.{RrType}
@@ -22,8 +22,12 @@ use Rattle.groot_line.specs.Program.{usual_names}
 use Rattle.plain_resolver.specs.Passed.{most_walks_followed}
 use Rattle.run_endings.proofs.OneReading.{one_by_reading}
 use Rattle.run_endings.specs.declared.ending.Ending.{Ending}
-use Rattle.run_endings.specs.Endings.{too_many_to_learn}
-use Rattle.groot_run.specs.Outcome.{reported, listed, HasMoreNames, WithinNames, WithinStates, IsReported, Checks, IsClassList, ListsClasses, ask_rewrites, IsAnswerWith, Asks, walks_written, GivesOf, Outcome, Drills, IsDrilled, drilled, drill_rewrites, answered_to, IsRechecked, Rechecks, TellsFindings, ShowsClasses, told_of_views, site_rewrites, Compares, ComparesWith, HasMoreNamesInBoth, IsCompared, compared_of, told_same, HasMoreNamesAt, IsScoped, ScopesSubject, scope_of, scope_written}
+use Rattle.run_endings.specs.Endings.{too_many_to_learn, with_output, writes_nothing}
+use Rattle.run_endings.specs.declared.status.Status.TheVariants.{Clean}
+use Rattle.groot_run.specs.NameList.{names_of}
+use Rattle.groot_run.specs.declared.name_list.ListFault.{ListFault}
+use Rattle.groot_run.specs.declared.name_list.ListFault.TheVariants as list_faults
+use Rattle.groot_run.specs.Outcome.{reported, listed, HasMoreNames, WithinNames, WithinStates, IsReported, Checks, IsClassList, ListsClasses, ask_rewrites, IsAnswerWith, Asks, walks_written, GivesOf, Outcome, Drills, IsDrilled, drilled, drill_rewrites, answered_to, IsRechecked, Rechecks, TellsFindings, ShowsClasses, told_of_views, site_rewrites, Compares, ComparesWith, HasMoreNamesInBoth, IsCompared, compared_of, told_same, HasMoreNamesAt, IsScoped, ScopesSubject, scope_of, scope_written, EndsBehind, Scopes, ScopesNames, ScopesOf, with_scope, own_sites}
 use Rattle.groot_run.specs.Programs.{conf_of, limits_of}
 use Rattle.report_check.proofs.OneAnswer.{only_answer}
 use Rattle.same_answers.specs.Compared.{Compared}
@@ -91,6 +95,27 @@ one_scope limit subject sites a b =
     ∙ ap (scope_written q.report subject.below sites) (one_list_of_views subject p.views q.views p.are_views q.are_views)
     ∙ sym q.as_text)
 
+-- names give one thing behind what is written of others, if each has one scope
+one_behind : (IsScope : Labels → Ending → Type 0) → ((name : Labels) (a b : Ending) → IsScope name a → IsScope name b → a ≡ b)
+    → (so_far : Ending) (names : List Labels) (a b : Ending) → EndsBehind IsScope so_far names a → EndsBehind IsScope so_far names b → a ≡ b
+one_behind IsScope one so_far [] a b p q = p ∙ sym q
+one_behind IsScope one so_far (name ∷ names) a b (scope, is, inl p) (other, was, inl q) = p.1 ∙ one name scope other is was ∙ sym q.1
+one_behind IsScope one so_far (name ∷ names) a b (scope, is, inl p) (other, was, inr q) =
+    absurd (true≢false (sym p.0 ∙ ap (λ (e : Ending). writes_nothing e.status) (one name scope other is was) ∙ q.0))
+one_behind IsScope one so_far (name ∷ names) a b (scope, is, inr p) (other, was, inl q) =
+    absurd (true≢false (sym q.0 ∙ ap (λ (e : Ending). writes_nothing e.status) (one name other scope was is) ∙ p.0))
+one_behind IsScope one so_far (name ∷ names) a b (scope, is, inr p) (other, was, inr q) =
+    one_behind IsScope one (with_scope so_far scope) names a b p.1
+    (subst (λ (e : Ending). EndsBehind IsScope (with_scope so_far e) names b) (one name other scope was is) q.1)
+
+-- and so do the names that a file may have
+one_listed : (limit : ℕ) (file : List ℕ) (config : Config) (names : Result (List Labels) ListFault) (a b : Ending)
+    → ScopesNames limit file config names a → ScopesNames limit file config names b → a ≡ b
+one_listed limit file config (Ok names) a b =
+    one_behind (λ name. Scopes limit name own_sites config) (λ name. one_scope limit (scope_of config name) own_sites) (with_output Clean []) names a b
+one_listed limit file config (Err (list_faults.NotName line)) a b = λ p q. p ∙ sym q
+one_listed limit file config (Err list_faults.NoMemory) a b = λ p q. p ∙ sym q
+
 one_list : (limit : ℕ) (config : Config) (a b : Ending) → ListsClasses limit config a → ListsClasses limit config b → a ≡ b
 one_list limit config a b =
     one_within config limit (IsClassList config a) (IsClassList config b) a b
@@ -131,6 +156,11 @@ one_same program told second config a b =
     one_by_reading second (λ other. Compares (usual_names program) (compared_of config other)) (λ other. one_comparison (usual_names program) (compared_of config other))
     (conf_of program second told) a b
 
+one_of_scopes : (program : Program) (told : FilesTold) (file : List ℕ) (config : Config) (a b : Ending) → ScopesOf program told file config a → ScopesOf program told file config b → a ≡ b
+one_of_scopes program told file config a b =
+    one_by_reading file (λ octets. ScopesNames (usual_names program) file config (names_of octets)) (λ octets. one_listed (usual_names program) file config (names_of octets))
+    (file_octets (limits_of program) file told) a b
+
 -- two outcomes of a task over the same configuration are equal
 one_of_task : (program : Program) (task : Task) (sites : List Site) (config : Config) (a b : Ending) → GivesOf program task sites config a → GivesOf program task sites config b → a ≡ b
 one_of_task program (tasks.Check workers classes rewrites) sites = one_check classes rewrites
@@ -149,4 +179,6 @@ one_outcome program told (Ok (jobs.Recheck meta report)) sites a b =
     one_by_reading meta (Rechecks program told report) (one_recheck program told report) (conf_of program meta told) a b
 one_outcome program told (Ok (jobs.Same first second)) sites a b =
     one_by_reading first (ComparesWith program told second) (one_same program told second) (conf_of program first told) a b
+one_outcome program told (Ok (jobs.Scopes meta names)) sites a b =
+    one_by_reading meta (ScopesOf program told names) (one_of_scopes program told names) (conf_of program meta told) a b
 one_outcome program told (Err fault) sites a b = λ p q. p ∙ sym q

@@ -1,7 +1,6 @@
 -- Classes whose views are shown, some after others: what checks have seen, and where a run ends among them.
 use Rattle.std.proofs.Common.{◌≡◌, ℕ, suc, ◌+◌, ◌<◌, ◌≤◌, List, [], ◌∷◌, ◌++◌, append_assoc, append-nil, length, take, drop, get_or, Option, Some, refl, sym, ap, subst, ◌∙◌, inl, inr, arith}
 use Rattle.std.specs.Prelude.{◌⊎◌, Contains}
-use Rattle.std.specs.List.{AllZip}
 use Rattle.std.proofs.Math.Seq.{drop-cons}
 use Rattle.std.proofs.lemmas.List.{map-append, take-append-drop, take_more, take_all}
 use Rattle.std.proofs.lemmas.List.Elements.{Contains-append_cases}
@@ -17,13 +16,13 @@ use Rattle.query_classes.specs.ClassList.{ListedClass, class_below, classes_of_r
 use Rattle.query_classes.specs.declared.tree.ClassRow.{ClassRow}
 use Rattle.query_verdicts.specs.Queries.{LimitedQueries, IsLeastGraph, Passes, ServerPasses}
 use Rattle.site_checks.specs.Ends.{AreEnds}
-use Rattle.site_checks.specs.Shown.{HasSeen}
+use Rattle.site_checks.specs.Views.{Site}
 use Rattle.site_checks.specs.declared.views.View.{View}
 use Rattle.site_checks.proofs.Seen.{nothing_seen, more_seen}
 use Rattle.run_endings.specs.declared.ending.Ending.{Ending}
 use Rattle.run_endings.specs.Endings.{no_memory}
 use Rattle.groot_run.specs.Outcome.{too_many_states}
-use Rattle.groot_run.specs.ShownClasses.{NoListedPasses, class_of, HasEnds, AreViewsOfClasses, AreShown, EndsAmongClasses}
+use Rattle.groot_run.specs.ShownClasses.{NoListedPasses, class_of, HasEnds, AreViewsOfClasses, SawViews, AreShown, EndsAmongClasses}
 
 -- ---- the classes of rows
 
@@ -168,87 +167,86 @@ module _ (queries : LimitedQueries) where
 
   -- ---- what checks have seen
 
-  module _ {B : Type 0} (name : B → List ℕ) (held : B → List (List ℕ)) (step : B → List (List ℕ) → View → List (List ℕ)) where
-    -- checks were shown the views of no class
-    pub shown_none : (all : List B) → AreShown name held step queries [] all all
-    shown_none all = record {
-      none_passes = none_of_none;
-      shown = λ clear. record {
-        views = [];
-        are_views = record { of_classes = refl; have_ends = λ view has. absurd (none_in_nil view has) };
-        seen = nothing_seen name held step all;
-      };
-    }
+  -- checks were shown the views of no class
+  pub shown_none : (all : List Site) → AreShown queries [] all all
+  shown_none all = record {
+    none_passes = none_of_none;
+    shown = λ clear. record {
+      views = [];
+      are_views = record { of_classes = refl; have_ends = λ view has. absurd (none_in_nil view has) };
+      seen = nothing_seen _ _ _ all;
+    };
+  }
 
-    -- checks that were shown the views of some classes and then of some more were shown those of both
-    pub shown_more : (classes more : List ListedClass) (a b c : List B) → AreShown name held step queries classes a b → AreShown name held step queries more b c
-        → AreShown name held step queries (classes ++ more) a c
-    shown_more classes more a b c first next = record {
-      none_passes = none_of_more classes more first.none_passes next.none_passes;
-      shown = λ clear.
-          let one = first.shown clear in
-          let other = next.shown clear in
-          record {
-            views = one.views ++ other.views;
-            are_views = views_of_more classes more one.views other.views one.are_views other.are_views;
-            seen = more_seen name held step one.views other.views a b c one.seen other.seen;
-          };
-    }
+  -- checks that were shown the views of some classes and then of some more were shown those of both
+  pub shown_more : (classes more : List ListedClass) (a b c : List Site) → AreShown queries classes a b → AreShown queries more b c
+      → AreShown queries (classes ++ more) a c
+  shown_more classes more a b c first next = record {
+    none_passes = none_of_more classes more first.none_passes next.none_passes;
+    shown = λ clear.
+        let one = first.shown clear in
+        let other = next.shown clear in
+        record {
+          views = one.views ++ other.views;
+          are_views = views_of_more classes more one.views other.views one.are_views other.are_views;
+          seen = more_seen _ _ _ one.views other.views a b c one.seen other.seen;
+        };
+  }
 
-    -- checks were shown the view of one class, whose representative doesn't pass
-    pub shown_view : (class : Class) (query : Labels) (view : View) (a b : List B) → (Passes queries query → ⊥) → view.class ≡ class → view.query ≡ query
-        → HasEnds queries view → AllZip (HasSeen name held step (view ∷ [])) a b → AreShown name held step queries (record { class = class; representative = query } ∷ []) a b
-    shown_view class query view a b few of_class of_query has seen = record {
-      none_passes = none_of_one class query few;
-      shown = λ clear. record {
-        views = view ∷ [];
-        are_views = record { of_classes = λ i. record { class = of_class i; representative = of_query i } ∷ []; have_ends = have };
-        seen = seen;
-      };
-    } where
-      have : (other : View) → Contains (view ∷ []) other → HasEnds queries other
-      have other among = elim (first_or_later view [] other among) [
-        | inl same ↦ subst (HasEnds queries) same has
-        | inr none ↦ absurd (none_in_nil other none)
-      ]
+  -- checks were shown the view of one class, whose representative doesn't pass
+  pub shown_view : (class : Class) (query : Labels) (view : View) (a b : List Site) → (Passes queries query → ⊥) → view.class ≡ class → view.query ≡ query
+      → HasEnds queries view → SawViews (view ∷ []) a b → AreShown queries (record { class = class; representative = query } ∷ []) a b
+  shown_view class query view a b few of_class of_query has seen = record {
+    none_passes = none_of_one class query few;
+    shown = λ clear. record {
+      views = view ∷ [];
+      are_views = record { of_classes = λ i. record { class = of_class i; representative = of_query i } ∷ []; have_ends = have };
+      seen = seen;
+    };
+  } where
+    have : (other : View) → Contains (view ∷ []) other → HasEnds queries other
+    have other among = elim (first_or_later view [] other among) [
+      | inl same ↦ subst (HasEnds queries) same has
+      | inr none ↦ absurd (none_in_nil other none)
+    ]
 
-    -- where the name of some server passes, none need be shown
-    pub shown_no_view : (class : Class) (query : Labels) (all : List B) → (Passes queries query → ⊥) → ServerPasses queries
-        → AreShown name held step queries (record { class = class; representative = query } ∷ []) all all
-    shown_no_view class query all few passes = record { none_passes = none_of_one class query few; shown = λ clear. absurd (clear passes) }
+  -- where the name of some server passes, none need be shown
+  pub shown_no_view : (class : Class) (query : Labels) (all : List Site) → (Passes queries query → ⊥) → ServerPasses queries
+      → AreShown queries (record { class = class; representative = query } ∷ []) all all
+  shown_no_view class query all few passes = record { none_passes = none_of_one class query few; shown = λ clear. absurd (clear passes) }
 
-    -- checks were shown the view of one class, whose representative doesn't pass, by the graph of its walks
-    pub shown_one : (class : Class) (query : Labels) (graph : PlainGraph) (view : View) (a b : List B) → IsLeastGraph queries.config queries.rewrites query graph
-        → (Passes queries query → ⊥) → view.class ≡ class → view.query ≡ query
-        → ((setting : Setting) → IsGraphOf setting query graph → AreEnds setting query view.ends)
-        → AllZip (HasSeen name held step (view ∷ [])) a b → AreShown name held step queries (record { class = class; representative = query } ∷ []) a b
-    shown_one class query graph view a b is few of_class of_query ends seen =
-        let setting : Setting = following queries.config queries.rewrites is.followed in
-        shown_view class query view a b few of_class of_query
-        (record { followed = is.followed; in_force = is.in_force; ends = subst (λ (name : Labels). AreEnds setting name view.ends) (sym of_query) (ends setting is.is_graph) })
-        seen
+  -- checks were shown the view of one class, whose representative doesn't pass, by the graph of its walks
+  pub shown_one : (class : Class) (query : Labels) (graph : PlainGraph) (view : View) (a b : List Site) → IsLeastGraph queries.config queries.rewrites query graph
+      → (Passes queries query → ⊥) → view.class ≡ class → view.query ≡ query
+      → ((setting : Setting) → IsGraphOf setting query graph → AreEnds setting query view.ends)
+      → SawViews (view ∷ []) a b → AreShown queries (record { class = class; representative = query } ∷ []) a b
+  shown_one class query graph view a b is few of_class of_query ends seen =
+      let setting : Setting = following queries.config queries.rewrites is.followed in
+      shown_view class query view a b few of_class of_query
+      (record { followed = is.followed; in_force = is.in_force; ends = subst (λ (name : Labels). AreEnds setting name view.ends) (sym of_query) (ends setting is.is_graph) })
+      seen
 
-    -- ---- of the classes of a row
+  -- ---- of the classes of a row
 
-    -- checks that were shown the class of a row's name alone, and then the class below, were shown the whole row
-    pub shown_both : (row : ClassRow) (representative : Labels) (exact below : Class) (a b c : List B) → row.below ≡ Some representative → exact ≡ Exact row.name
-        → below ≡ Below row.name → AreShown name held step queries (class_with exact row.name ∷ []) a b
-        → AreShown name held step queries (class_with below representative ∷ []) b c → AreShown name held step queries (classes_of_row row) a c
-    shown_both row representative exact below a b c is same also first next =
-        subst (λ (classes : List ListedClass). AreShown name held step queries classes a c) (classes_are row representative exact below is same also)
-        (shown_more (class_with exact row.name ∷ []) (class_with below representative ∷ []) a b c first next)
+  -- checks that were shown the class of a row's name alone, and then the class below, were shown the whole row
+  pub shown_both : (row : ClassRow) (representative : Labels) (exact below : Class) (a b c : List Site) → row.below ≡ Some representative → exact ≡ Exact row.name
+      → below ≡ Below row.name → AreShown queries (class_with exact row.name ∷ []) a b
+      → AreShown queries (class_with below representative ∷ []) b c → AreShown queries (classes_of_row row) a c
+  shown_both row representative exact below a b c is same also first next =
+      subst (λ (classes : List ListedClass). AreShown queries classes a c) (classes_are row representative exact below is same also)
+      (shown_more (class_with exact row.name ∷ []) (class_with below representative ∷ []) a b c first next)
 
-    -- ---- of the classes of rows
+  -- ---- of the classes of rows
 
-    -- once the next row was shown too, the classes of one row more were shown
-    pub shown_row : (rows : List ClassRow) (i : ℕ) (row : ClassRow) (a b c : List B) → i < length rows → row ≡ get_or rows i row
-        → AreShown name held step queries (classes_of_rows (take i rows)) a b → AreShown name held step queries (classes_of_row row) b c
-        → AreShown name held step queries (classes_of_rows (take (i + 1) rows)) a c
-    shown_row rows i row a b c there is first next =
-        subst (λ (classes : List ListedClass). AreShown name held step queries classes a c) (sym (classes_more rows i row there is))
-        (shown_more (classes_of_rows (take i rows)) (classes_of_row row) a b c first next)
+  -- once the next row was shown too, the classes of one row more were shown
+  pub shown_row : (rows : List ClassRow) (i : ℕ) (row : ClassRow) (a b c : List Site) → i < length rows → row ≡ get_or rows i row
+      → AreShown queries (classes_of_rows (take i rows)) a b → AreShown queries (classes_of_row row) b c
+      → AreShown queries (classes_of_rows (take (i + 1) rows)) a c
+  shown_row rows i row a b c there is first next =
+      subst (λ (classes : List ListedClass). AreShown queries classes a c) (sym (classes_more rows i row there is))
+      (shown_more (classes_of_rows (take i rows)) (classes_of_row row) a b c first next)
 
-    -- once as many rows as there are were shown, the classes of all rows were shown
-    pub shown_all : (rows : List ClassRow) (i : ℕ) (a b : List B) → length rows ≤ i → AreShown name held step queries (classes_of_rows (take i rows)) a b
-        → AreShown name held step queries (classes_of_rows rows) a b
-    shown_all rows i a b past shown = subst (λ (some : List ClassRow). AreShown name held step queries (classes_of_rows some) a b) (take_all i rows past) shown
+  -- once as many rows as there are were shown, the classes of all rows were shown
+  pub shown_all : (rows : List ClassRow) (i : ℕ) (a b : List Site) → length rows ≤ i → AreShown queries (classes_of_rows (take i rows)) a b
+      → AreShown queries (classes_of_rows rows) a b
+  shown_all rows i a b past shown = subst (λ (some : List ClassRow). AreShown queries (classes_of_rows some) a b) (take_all i rows past) shown

@@ -22,15 +22,15 @@ use Rattle.query_verdicts.specs.Queries.{LimitedQueries, ServerPasses, limited_t
 use Rattle.query_verdicts.proofs.ClassesJudged.{some_name}
 use Rattle.query_verdicts.proofs.PassingNames.{class_passes}
 use Rattle.report_json.specs.Sites.{sites_text}
-use Rattle.site_checks.specs.Views.{IsView, AreViews}
+use Rattle.site_checks.specs.Views.{IsView, AreViews, Site, told_by}
 use Rattle.site_checks.specs.declared.shown.SiteFindings.{SiteFindings}
 use Rattle.site_checks.specs.declared.views.View.{View}
 use Rattle.site_checks.proofs.OneViews.{one_view}
-use Rattle.site_checks.proofs.Seen.{told_after}
 use Rattle.run_endings.specs.declared.ending.Ending.{Ending}
 use Rattle.run_endings.specs.declared.status.Status.TheVariants.{Clean}
 use Rattle.run_endings.specs.Endings.{with_output, no_memory}
 use Rattle.groot_run.specs.Outcome.{WithinStates, TellsFindings, site_rewrites}
+use Rattle.groot_run.proofs.Watched.{told_of_sites}
 use Rattle.groot_run.specs.ShownClasses.{NoListedPasses, class_of, AreViewsOfClasses, AreShown, IsFirstOf, EndsAmongClasses}
 
 module _ (subject : Subject) (states : ℕ) (classes : List ListedClass) (are : AreListed subject.ground subject.below classes) where
@@ -129,13 +129,12 @@ module _ (queries : LimitedQueries) (same : queries ≡ limited_to queries.confi
       (some_name queries.config site_rewrites most_states name (limited (λ q. IsFirstServerPassed q.config q.rewrites q.states name) first)))
 
   -- a run that showed all classes to the checks ends with what they tell
-  pub told : {B : Type 0} (name : B → List ℕ) (held : B → List (List ℕ)) (step : B → List (List ℕ) → View → List (List ℕ)) (olds news lent : List B)
-      → AreShown name held step queries classes olds news → lent ≡ news → (ServerPasses queries → ⊥)
-      → (ending : Ending) → ending ≡ with_output Clean (sites_text (map (λ b. record { title = name b; findings = held b }) lent))
-      → WithinStates queries.config site_rewrites (TellsFindings queries.config (map (λ b. record { name = name b; held = held b; step = step b }) olds) ending) ending
-  told name held step olds news lent shown same_now clear ending is =
+  pub told : (olds news : List Site) → AreShown queries classes olds news → (ServerPasses queries → ⊥)
+      → (ending : Ending) → ending ≡ with_output Clean (sites_text (map (told_by []) news))
+      → WithinStates queries.config site_rewrites (TellsFindings queries.config olds ending) ending
+  told olds news shown clear ending is =
       let seen = shown.shown clear in
-      let tells = ap (map (λ b. record { title = name b; findings = held b })) same_now ∙ told_after name held step seen.views olds news seen.seen in
+      let tells = told_of_sites seen.views olds news seen.seen in
       inr (
         none shown.none_passes,
         record {

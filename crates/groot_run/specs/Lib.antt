@@ -14,6 +14,7 @@ pub use Rattle.site_checks.specs.Views
 pub mod ClassList
 pub mod DrillLine
 pub mod KeptText
+pub mod NameList
 pub mod Laws
 pub mod Programs
 pub mod Outcome
@@ -24,3 +25,4 @@ pub mod Counted
 pub mod JobEnds
 pub mod ShownClasses
 pub mod HeldView
+pub mod ScopeTexts

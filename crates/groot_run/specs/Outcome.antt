@@ -1,5 +1,5 @@
 -- How a run ends: its status, the text for out and the line for err, by its job and by what is told of the files.
-use Rattle.std.specs.Prelude.{◌≡◌, ◌≢◌, ℕ, ◌⊎◌, List, [], ◌∷◌, ◌++◌, length, map, min, codes, decimal, Result, Ok, Err}
+use Rattle.std.specs.Prelude.{◌≡◌, ◌≢◌, ℕ, true, false, ◌⊎◌, List, [], ◌∷◌, ◌++◌, length, map, min, codes, decimal, Result, Ok, Err}
 use Rattle.io_edges.specs.Counts.{last_count, Rose}
 use Rattle.io_edges.specs.Files.{FilesTold}
 use Rattle.dns_data.specs.Name.{Labels}
@@ -40,7 +40,7 @@ use Rattle.groot_line.specs.declared.job.Task.TheVariants as tasks
 use Rattle.groot_line.specs.declared.program.Program.{Program}
 use Rattle.run_endings.specs.declared.ending.Ending.{Ending}
 use Rattle.run_endings.specs.declared.status.Status.{Status}
-use Rattle.run_endings.specs.Endings.{OfReading, with_output, without_output, no_memory, too_many_names, too_many_states as too_many_states_than, too_many_to_learn}
+use Rattle.run_endings.specs.Endings.{OfReading, with_output, without_output, no_memory, too_many_names, too_many_states as too_many_states_than, too_many_to_learn, writes_nothing}
 use Rattle.run_endings.specs.declared.status.Status.TheVariants.{Clean, Faults, Usage, Refused, Walks}
 use Rattle.job_scope.specs.Scoped.{scoped}
 use Rattle.same_answers.specs.Compared.{Compared, joint}
@@ -52,9 +52,14 @@ use Rattle.net_model.specs.Tree.{HasMoreThan, IsInPart}
 use Rattle.query_classes.specs.Children.{IsInTree}
 use Rattle.zone_maker.specs.Source.{drill_told}
 use Rattle.report_json.specs.Sites.{sites_text, scope_text}
+use Rattle.site_checks.specs.AOnly.{a_only}
+use Rattle.site_checks.specs.Answering.{answering}
 use Rattle.site_checks.specs.Views.{AreViews, Site, told_by}
 use Rattle.site_checks.specs.declared.views.View.{View}
 use Rattle.groot_run.specs.DrillLine.{drill_line, record_count}
+use Rattle.groot_run.specs.NameList.{names_of}
+use Rattle.groot_run.specs.declared.name_list.ListFault.{ListFault}
+use Rattle.groot_run.specs.declared.name_list.ListFault.TheVariants as list_faults
 use Rattle.groot_run.specs.Programs.{conf_of, limits_of}
 use Rattle.query_classes.specs.ClassList.{ListedClass, AreListed}
 use Rattle.groot_run.specs.ClassList.{class_list_text}
@@ -341,6 +346,49 @@ ScopesSubject limit subject sites ending = WithinSubject subject limit (IsScoped
 abbrev pub Scopes : ℕ → Labels → List Site → Config → Ending → Type 0
 Scopes limit name sites config = ScopesSubject limit (scope_of config name) sites
 
+-- ---- the scopes of a file's names
+
+-- the line of the file with this number is no name
+abbrev pub bad_name : List ℕ → ℕ → Ending
+bad_name file line = without_output Refused (fields_line file (decimal line) (codes "bad-name"))
+
+-- the status of two reports: that of a fault, where one of them has it
+abbrev pub worse : Status → Status → Status
+worse Clean second = second
+worse first second = Faults
+
+-- what was written, and the text of a scope behind it
+abbrev pub with_scope : Ending → Ending → Ending
+with_scope so_far scope = with_output (worse so_far.status scope.status) (so_far.out ++ scope.out)
+
+-- What names give behind what was written of others, in order: each the text that `scope` writes for it, behind one
+-- another. The first for which `scope` writes nothing ends the run as it ends `scope`; nothing is written then.
+abbrev pub EndsBehind : (Labels → Ending → Type 0) → Ending → List Labels → Ending → Type 0
+EndsBehind IsScope so_far [] ending = ending ≡ so_far
+EndsBehind IsScope so_far (name ∷ names) ending =
+    (scope : Ending) × IsScope name scope
+    × (((writes_nothing scope.status ≡ true) × (ending ≡ scope))
+    ⊎ ((writes_nothing scope.status ≡ false) × EndsBehind IsScope (with_scope so_far scope) names ending))
+
+-- the checks that come with the library, which were shown nothing
+abbrev pub own_sites : List Site
+own_sites = record { name = codes "a-only"; held = []; step = a_only } ∷ record { name = codes "answering"; held = []; step = answering } ∷ []
+
+-- what `scopes` gives of names: what `scope` does of each, with the checks that come with the library
+abbrev pub ScopesEach : ℕ → Config → List Labels → Ending → Type 0
+ScopesEach limit config = EndsBehind (λ name. Scopes limit name own_sites config) (with_output Clean [])
+
+-- what it gives of the names that a file may have
+abbrev pub ScopesNames : ℕ → List ℕ → Config → Result (List Labels) ListFault → Ending → Type 0
+ScopesNames limit file config (Ok names) ending = ScopesEach limit config names ending
+ScopesNames limit file config (Err (list_faults.NotName line)) ending = ending ≡ bad_name file line
+ScopesNames limit file config (Err list_faults.NoMemory) ending = ending ≡ no_memory
+
+-- what it gives of a configuration: the scopes of the names in this file
+abbrev pub ScopesOf : Program → FilesTold → List ℕ → Config → Ending → Type 0
+ScopesOf program told file config ending =
+    OfReading file (λ octets. ScopesNames (usual_names program) file config (names_of octets)) (file_octets (limits_of program) file told) ending
+
 -- what a task gives of its configuration, by the program and the checks that the operator brings
 abbrev pub GivesOf : Program → Task → List Site → Config → Ending → Type 0
 GivesOf program (tasks.Check workers classes rewrites) sites = Checks classes rewrites
@@ -356,6 +404,7 @@ Outcome program told (Ok (jobs.OfConfig meta task)) sites ending = OfReading met
 Outcome program told (Ok (jobs.Drill zones workers)) sites ending = OfReading (codes "meta.json") (Drills (usual_names program) zones) (conf_of program (codes "meta.json") (drill_told zones)) ending
 Outcome program told (Ok (jobs.Recheck meta report)) sites ending = OfReading meta (Rechecks program told report) (conf_of program meta told) ending
 Outcome program told (Ok (jobs.Same first second)) sites ending = OfReading first (ComparesWith program told second) (conf_of program first told) ending
+Outcome program told (Ok (jobs.Scopes meta names)) sites ending = OfReading meta (ScopesOf program told names) (conf_of program meta told) ending
 Outcome program told job sites ending = ending ≡ usage program
 
 -- ---- failed reads
@@ -366,6 +415,7 @@ abbrev pub JobComesTo : Program → FilesTold → Result Job LineFault → List 
 JobComesTo program told (Ok (jobs.OfConfig meta task)) file = ComesToFile (conf_of program meta) told file
 JobComesTo program told (Ok (jobs.Recheck meta report)) file = ComesToFile (both (conf_of program meta) (file_octets (limits_of program) report)) told file
 JobComesTo program told (Ok (jobs.Same first second)) file = ComesToFile (both (conf_of program first) (conf_of program second)) told file
+JobComesTo program told (Ok (jobs.Scopes meta names)) file = ComesToFile (both (conf_of program meta) (file_octets (limits_of program) names)) told file
 JobComesTo program told job file = ⊥
 
 -- no other file is opened than those to which the job comes: of any other name the same is told as before

@@ -8,6 +8,7 @@ use Rattle.query_classes.specs.ClassList.{ListedClass}
 use Rattle.query_verdicts.specs.Queries.{LimitedQueries, Passes, ServerPasses}
 use Rattle.site_checks.specs.Ends.{AreEnds}
 use Rattle.site_checks.specs.Shown.{HasSeen}
+use Rattle.site_checks.specs.Views.{Site}
 use Rattle.site_checks.specs.declared.views.View.{View}
 use Rattle.run_endings.specs.declared.ending.Ending.{Ending}
 use Rattle.run_endings.specs.Endings.{no_memory}
@@ -32,19 +33,25 @@ pub record AreViewsOfClasses (queries : LimitedQueries) (classes : List ListedCl
   pub of_classes : map class_of views ≡ classes
   pub have_ends : (view : View) → Contains views view → HasEnds queries view
 
+-- what checks mean: some, and behind them those that an operator brings
+abbrev pub sites_of : {B : Type 0} → (B → List ℕ) → (B → List (List ℕ)) → (B → List (List ℕ) → View → List (List ℕ)) → List Site → List B → List Site
+sites_of name held step own brought = own ++ map (λ b. record { name = name b; held = held b; step = step b }) brought
+
+-- checks were shown these views, in order
+abbrev pub SawViews : List View → List Site → List Site → Type 0
+SawViews views = AllZip (HasSeen (λ (site : Site). site.name) (λ (site : Site). site.held) (λ (site : Site). site.step) views)
+
 -- checks were shown the views of these classes, in order
-pub record HaveSeen {B : Type 0} (name : B → List ℕ) (held : B → List (List ℕ)) (step : B → List (List ℕ) → View → List (List ℕ)) (queries : LimitedQueries)
-    (classes : List ListedClass) (before after : List B) : Type 0 where
+pub record HaveSeen (queries : LimitedQueries) (classes : List ListedClass) (before after : List Site) : Type 0 where
   pub views : List View
   pub are_views : AreViewsOfClasses queries classes views
-  pub seen : AllZip (HasSeen name held step views) before after
+  pub seen : SawViews views before after
 
 -- None of these classes' representatives passes; and where no server's name does, checks were shown the views of all of
 -- them, in order.
-pub record AreShown {B : Type 0} (name : B → List ℕ) (held : B → List (List ℕ)) (step : B → List (List ℕ) → View → List (List ℕ)) (queries : LimitedQueries)
-    (classes : List ListedClass) (before after : List B) : Type 0 where
+pub record AreShown (queries : LimitedQueries) (classes : List ListedClass) (before after : List Site) : Type 0 where
   pub none_passes : NoListedPasses queries classes
-  pub shown : (ServerPasses queries → ⊥) → HaveSeen name held step queries classes before after
+  pub shown : (ServerPasses queries → ⊥) → HaveSeen queries classes before after
 
 -- the query is the first representative of these classes that passes
 pub record IsFirstOf (queries : LimitedQueries) (classes : List ListedClass) (query : Labels) : Type 0 where

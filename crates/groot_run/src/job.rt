@@ -16,12 +16,13 @@ use crate::load::last_configuration;
 use crate::recheck::recheck;
 use crate::same::same;
 use crate::scope::scope;
+use crate::scopes::scopes;
+use crate::shown::{NoChecks, ShownChecks};
 use crate::site::site;
 use groot_line::{Job, Program, Task};
 use io_edges::{Files, Gate};
 use net_model::Config;
 use run_endings::Ending;
-use site_checks::SiteCheck;
 use std::alloc::Global;
 use std::mem::forget;
 use std::sync::Wait;
@@ -36,10 +37,10 @@ pub(crate) fn of_job<F: Files, G: Gate + Sync, R: Threads + Wait + Sync>(
     files: &mut F,
     job: &Job,
     gate: &G,
-    sites: &mut Vec<Box<dyn SiteCheck>>,
+    sites: &mut ShownChecks<NoChecks>,
 ) -> Ending
     requires { AreInRange program job.now }
-    ensures cause { JobEnds program (F.told files.new) (Ok job.now) (map (λ b. record { name = name b; held = held b; step = step b }) sites.old.items)
+    ensures cause { JobEnds program (F.told files.new) (Ok job.now) (map (λ b. record { name = name b; held = held b; step = step b }) sites.old.brought.items)
         (F.faults files.old) (F.faults files.new) result }
     ensures from_the_start { TellsAll (F.told files.old) → F.told files.new ≡ F.told files.old }
     ensures opens { JobOpensNoOther program (F.told files.old) (F.told files.new) (Ok job.now) }
@@ -72,6 +73,15 @@ pub(crate) fn of_job<F: Files, G: Gate + Sync, R: Threads + Wait + Sync>(
             second.as_str(),
             gate,
         ),
+        Job::Scopes { meta, names } => scopes(
+            rt,
+            alloc,
+            program,
+            files,
+            meta.as_str(),
+            names.as_str(),
+            gate,
+        ),
     }
 }
 
@@ -83,10 +93,10 @@ fn of_task<G: Gate + Sync, R: Threads + Wait + Sync>(
     config: &Config,
     task: &Task,
     gate: &G,
-    sites: &mut Vec<Box<dyn SiteCheck>>,
+    sites: &mut ShownChecks<NoChecks>,
 ) -> Ending
     requires { IsTaskInRange program task.now }
-    ensures { GivesOf program task.now (map (λ b. record { name = name b; held = held b; step = step b }) sites.old.items) config.now result
+    ensures { GivesOf program task.now (map (λ b. record { name = name b; held = held b; step = step b }) sites.old.brought.items) config.now result
         ⊎ (result ≡ no_memory) }
 {
     match task {

@@ -17,10 +17,12 @@ mod judging;
 mod kept_text;
 mod laws;
 mod load;
+mod name_list;
 mod recheck;
 mod run;
 mod same;
 mod scope;
+mod scopes;
 mod shown;
 mod site;
 

@@ -7,6 +7,7 @@ ghost use Rattle.groot_run.specs.Runs.{WritesReport, EndsInReport, RunsAsAsked, 
 use crate::ending::usage;
 use crate::job::of_job;
 use crate::laws;
+use crate::shown::{NoChecks, ShownChecks};
 use groot_line::{LineFault, Program, read_words_of};
 use io_edges::{Files, Gate, Sink};
 use run_endings::{Ending, Status, write_ending};
@@ -124,7 +125,10 @@ pub fn run_words<F: Files, G: Gate + Sync, R: Threads + Wait + Sync>(
     ensures run { EndsAsAsked program (map (λ word. word.now) words.now) (map (λ b. record { name = name b; held = held b; step = step b }) sites.items)
         (files_of F.told F.faults files.old files.new) result }
 {
-    let mut sites = sites;
+    let mut sites = ShownChecks {
+        own: NoChecks,
+        brought: sites,
+    };
     match read_words_of(alloc, program, words) {
         Ok(job) => of_job(rt, alloc, program, files, &job, gate, &mut sites),
         Err(LineFault::Usage) => usage(program),

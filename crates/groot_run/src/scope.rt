@@ -1,8 +1,9 @@
 //! The report on the queries at or below a name, and what the checks that an operator brings find in their classes.
 
-ghost use Rattle.std.specs.Prelude.{◌≡◌, ◌⊎◌, ◌<◌, ◌≤◌, map, IfOk, IfErr};
+ghost use Rattle.std.specs.Prelude.{◌≡◌, ◌⊎◌, ◌<◌, ◌≤◌, [], List as ListOf, length, map, IfOk, IfErr};
 ghost use Rattle.std.specs.List.{flat_map};
 ghost use Rattle.graph_form.specs.declared.report.Report.{Report};
+ghost use Rattle.graph_form.specs.declared.report.ReportEntry.{ReportEntry as EntryValue};
 ghost use Rattle.groot_run.specs.KeptText.{kept_text};
 ghost use Rattle.net_model.specs.Tree.{IsInPart};
 ghost use Rattle.query_classes.specs.ClassList.{AreListed, classes_of_rows};
@@ -12,13 +13,17 @@ ghost use Rattle.query_verdicts.specs.Queries.{most_states};
 ghost use Rattle.query_verdicts.specs.Subjects.{IsCovering};
 ghost use Rattle.report_json.specs.Sites.{scope_text};
 ghost use Rattle.run_endings.specs.Endings.{no_memory};
+ghost use Rattle.site_checks.specs.Views as views;
 ghost use Rattle.groot_run.specs.Counted.{EndsPast};
 ghost use Rattle.groot_line.specs.Program.{largest_names};
-ghost use Rattle.groot_run.specs.Outcome.{IsScoped, Scopes, ScopesSubject, scope_of};
+ghost use Rattle.groot_run.specs.Outcome.{Scopes, scope_of, status_of};
+ghost use Rattle.groot_run.specs.ShownClasses.{sites_of};
+ghost use Rattle.groot_run.specs.ScopeTexts.{EndsAsTold, TellsScope, TellsText, status_when};
 
 use crate::classes::rows_at;
 use crate::judging::{CheckLimits, told};
-use crate::kept_text::{EntryText, numbers_of, status_of, texts_of};
+use crate::kept_text::{EntryText, numbers_of, texts_of};
+use crate::shown::{ShownChecks, Watchers, findings};
 use crate::site::show_rows;
 use class_judge::{Judge, Naming};
 use dns_data::{List, Name, NoMemory, Octets};
@@ -29,81 +34,111 @@ use net_model::Config;
 use query_classes::ClassRow;
 use query_verdicts::{KeptReport, MOST_STATES};
 use report_json::scope_pieces;
-use run_endings::Ending;
-use site_checks::{SiteCheck, tell};
+use run_endings::{Ending, Status};
 use std::alloc::Global;
 use std::marker::Brand;
 use std::mem::forget;
 use std::sync::Wait;
 use std::thread::Threads;
 
+/// What is told of scopes: whether one has a fault, and their text, in pieces.
+#[derive(Drop)]
+pub(crate) struct ScopeText {
+    pub faulty: bool,
+    pub pieces: List<Octets>,
+}
+
 /// The scope of a name in a configuration: the report on the queries at or below the name, and what the checks find in
 /// their classes; unless the scope has more than so many names, or else a representative in it or the name of a server
 /// reaches too many pairs of state and type.
-pub(crate) fn scope<G: Gate + Sync, R: Threads + Wait + Sync>(
+pub(crate) fn scope<W: Watchers, G: Gate + Sync, R: Threads + Wait + Sync>(
     rt: &R,
     alloc: Global,
     config: &Config,
     scope: &Name,
     names: u32,
     gate: &G,
-    sites: &mut Vec<Box<dyn SiteCheck>>,
+    sites: &mut ShownChecks<W>,
 ) -> Ending
     requires some { 0 < names }
     requires few { names ≤ largest_names }
-    ensures { Scopes names scope.now (map (λ b. record { name = name b; held = held b; step = step b }) sites.old.items) config.now result
+    ensures { Scopes names scope.now (sites_of (λ b. name b) (λ b. held b) (λ b. step b) (W.sites sites.old.own) sites.old.brought.items) config.now result
         ⊎ (result ≡ no_memory) }
 {
     // The labels are read, so that the length of the name is known here.
     let _ = scope.labels();
-    judged::<Brand, G, R>(rt, alloc, config, scope, names, gate, sites)
+    ended(judged::<Brand, W, G, R>(rt, alloc, config, scope, names, gate, sites))
 }
 
-/// The scope of a name, by the judge of this name.
-fn judged<N: Naming + Send + Sync, G: Gate + Sync, R: Threads + Wait + Sync>(
+/// How a run ends by what is told of scopes.
+pub(crate) fn ended(told: Result<ScopeText, Ending>) -> Ending
+    ensures { EndsAsTold told result }
+{
+    match told {
+        Ok(text) => Ending::in_pieces(status_when(text.faulty), Ok(text.pieces)),
+        Err(ending) => ending,
+    }
+}
+
+/// The status of reports that are written, by whether one has a fault.
+fn status_when(faulty: bool) -> Status
+    ensures { result ≡ status_when faulty }
+{
+    if faulty {
+        Status::Faults
+    } else {
+        Status::Clean
+    }
+}
+
+/// What is told of the scope of a name, by the judge of this name.
+fn judged<N: Naming + Send + Sync, W: Watchers, G: Gate + Sync, R: Threads + Wait + Sync>(
     rt: &R,
     alloc: Global,
     config: &Config,
     scope: &Name,
     names: u32,
     gate: &G,
-    sites: &mut Vec<Box<dyn SiteCheck>>,
-) -> Ending
+    sites: &mut ShownChecks<W>,
+) -> Result<ScopeText, Ending>
     requires name { (scope_of config.now scope.now ≡ N.subject) × (most_states ≡ N.states) }
     requires covering { IsCovering N.subject }
     requires some { 0 < names }
     requires few { names ≤ largest_names }
-    ensures { ScopesSubject names N.subject (map (λ b. record { name = name b; held = held b; step = step b }) sites.old.items) result
-        ⊎ (result ≡ no_memory) }
+    ensures { TellsScope names N.subject (sites_of (λ b. name b) (λ b. held b) (λ b. step b) (W.sites sites.old.own) sites.old.brought.items) result }
 {
     match ScopeJudge::<N>::prepare(alloc, config, USUAL_REWRITES, MOST_STATES, scope) {
         Ok(judge) => {
-            let ending = told_by(rt, alloc, judge.as_judge(), scope, names, gate, sites);
+            let told = told_by(rt, alloc, judge.as_judge(), scope, names, gate, sites);
             // The run ends so, and the trees of all zones with it: none is taken apart.
             forget(judge);
-            ending
+            told
         }
-        Err(NoMemory) => Ending::no_memory(),
+        Err(NoMemory) => Err(Ending::no_memory()),
     }
 }
 
-/// The scope of a name, by its judge. The names of the scope are counted before one is judged, since DNAME records may
-/// multiply them.
-fn told_by<N: Naming + Send + Sync, G: Gate + Sync, R: Threads + Wait + Sync>(
+/// What is told of the scope of a name, by its judge. The names of the scope are counted before one is judged, since DNAME
+/// records may multiply them.
+pub(crate) fn told_by<
+    N: Naming + Send + Sync,
+    W: Watchers,
+    G: Gate + Sync,
+    R: Threads + Wait + Sync,
+>(
     rt: &R,
     alloc: Global,
     judge: &Judge<'_, N>,
     scope: &Name,
     names: u32,
     gate: &G,
-    sites: &mut Vec<Box<dyn SiteCheck>>,
-) -> Ending
+    sites: &mut ShownChecks<W>,
+) -> Result<ScopeText, Ending>
     requires name { (scope.now ≡ N.subject.below) × (most_states ≡ N.states) }
     requires covering { IsCovering N.subject }
     requires some { 0 < names }
     requires few { names ≤ largest_names }
-    ensures { ScopesSubject names N.subject (map (λ b. record { name = name b; held = held b; step = step b }) sites.old.items) result
-        ⊎ (result ≡ no_memory) }
+    ensures { TellsScope names N.subject (sites_of (λ b. name b) (λ b. held b) (λ b. step b) (W.sites sites.old.own) sites.old.brought.items) result }
 {
     let limits = CheckLimits {
         workers: USUAL_WORKERS,
@@ -113,35 +148,47 @@ fn told_by<N: Naming + Send + Sync, G: Gate + Sync, R: Threads + Wait + Sync>(
     match rows_of(alloc, judge, scope, names) {
         Ok(rows) => match told::<N, EntryText, G, R>(rt, alloc, judge, limits, gate) {
             Ok(report) => shown(alloc, judge, scope, rows.items(), report, sites),
-            Err(ending) => ending,
+            Err(ending) => Err(ending),
         },
-        Err(ending) => ending,
+        Err(ending) => Err(ending),
     }
 }
 
-/// How a run ends that has the report of a scope and the rows of its names: the checks are shown the views of the classes,
-/// in class order.
-fn shown<N: Naming>(
+/// What is told of a scope whose report and whose names' rows these are: the checks are shown the views of the classes, in
+/// class order.
+fn shown<N: Naming, W: Watchers>(
     alloc: Global,
     judge: &Judge<'_, N>,
     scope: &Name,
     rows: &[ClassRow],
     report: KeptReport<EntryText>,
-    sites: &mut Vec<Box<dyn SiteCheck>>,
-) -> Ending
+    sites: &mut ShownChecks<W>,
+) -> Result<ScopeText, Ending>
     requires name { (scope.now ≡ N.subject.below) × (most_states ≡ N.states) }
     requires listed { AreListed N.subject.ground N.subject.below (classes_of_rows rows.now) }
     requires none_passes { NonePasses N.subject most_states }
     requires report { IsKeptReport N.subject kept_text report }
-    ensures { IsScoped N.subject (map (λ b. record { name = name b; held = held b; step = step b }) sites.old.items) result
-        ⊎ (result ≡ no_memory) }
+    ensures { TellsText N.subject (sites_of (λ b. name b) (λ b. held b) (λ b. step b) (W.sites sites.old.own) sites.old.brought.items) result }
 {
     match show_rows(alloc, judge.queries(), rows, sites) {
         Ok(()) => {
-            let status = status_of(report.kept.items());
-            Ending::in_pieces(status, text_of(alloc, report, scope, sites.as_slice()))
+            let faulty = has_entries(report.kept.items());
+            match text_of(alloc, report, scope, sites) {
+                Ok(pieces) => Ok(ScopeText { faulty, pieces }),
+                Err(NoMemory) => Err(Ending::no_memory()),
+            }
         }
-        Err(ending) => ending,
+        Err(ending) => Err(ending),
+    }
+}
+
+/// Whether a report has a fault, by what is kept of its entries.
+fn has_entries<K>(kept: &[K]) -> bool
+    ensures { (entries : ListOf EntryValue) → length kept.now ≡ length entries → status_when result ≡ status_of entries }
+{
+    match kept {
+        [] => false,
+        _ => true,
     }
 }
 
@@ -161,17 +208,17 @@ fn rows_of<N: Naming>(
 }
 
 /// The text of a scope, in pieces.
-fn text_of(
+fn text_of<W: Watchers>(
     alloc: Global,
     report: KeptReport<EntryText>,
     scope: &Name,
-    sites: &[Box<dyn SiteCheck>],
+    sites: &ShownChecks<W>,
 ) -> Result<List<Octets>, NoMemory>
     ensures { IfOk result (λ pieces. (whole : Report) → KeepsReport kept_text report whole
-        → flat_map (λ piece. piece) pieces ≡ scope_text whole scope.now (map (λ b. record { title = name b; findings = held b }) sites.now)) }
+        → flat_map (λ piece. piece) pieces ≡ scope_text whole scope.now (map (views.told_by []) (sites_of (λ b. name b) (λ b. held b) (λ b. step b) (W.sites sites.now.own) sites.now.brought.items))) }
 {
     let numbers = numbers_of(&report);
-    let told = tell(alloc, sites)?;
+    let told = findings(alloc, sites)?;
     let texts = texts_of(alloc, report.kept)?;
     scope_pieces(alloc, numbers, texts, scope, told.items())
 }

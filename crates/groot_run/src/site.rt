@@ -6,14 +6,15 @@ ghost use Rattle.query_classes.specs.ClassList.{AreListed, classes_of_row, class
 ghost use Rattle.query_verdicts.specs.Queries.{WalksLike, limited_to, most_states};
 ghost use Rattle.report_json.specs.Sites.{sites_text};
 ghost use Rattle.run_endings.specs.Endings.{no_memory};
+ghost use Rattle.site_checks.specs.Views.{told_by};
 ghost use Rattle.groot_run.specs.HeldView.{IsHeld};
 ghost use Rattle.groot_run.specs.Outcome.{TellsFindings, ShowsClasses, WithinStates, site_rewrites};
-ghost use Rattle.groot_run.specs.ShownClasses.{AreShown, EndsAmongClasses};
+ghost use Rattle.groot_run.specs.ShownClasses.{AreShown, EndsAmongClasses, sites_of};
 
 use crate::classes::rows_within;
 use crate::ending::too_many_states;
 use crate::held_view::{HeldView, change_class, hold};
-use crate::shown::show;
+use crate::shown::{ShownChecks, Watchers, findings, show};
 use dns_data::{Name, NoMemory, Octets};
 use groot_line::USUAL_REWRITES;
 use interp_graph::GraphFault;
@@ -22,18 +23,18 @@ use query_classes::ClassRow;
 use query_verdicts::{MOST_STATES, QueryGraphs};
 use report_json::sites_text;
 use run_endings::{Ending, Status};
-use site_checks::{SiteCheck, tell, view};
+use site_checks::view;
 use std::alloc::Global;
 
 /// What the checks find in the classes of the configuration, unless its class tree has more than so many names or else a
 /// representative reaches too many pairs of state and type. Each check is shown the view of each class, in class order.
-pub(crate) fn site(
+pub(crate) fn site<W: Watchers>(
     alloc: Global,
     config: &Config,
     names: u32,
-    sites: &mut Vec<Box<dyn SiteCheck>>,
+    sites: &mut ShownChecks<W>,
 ) -> Ending
-    ensures { ShowsClasses names (map (λ b. record { name = name b; held = held b; step = step b }) sites.old.items) config.now result
+    ensures { ShowsClasses names (sites_of (λ b. name b) (λ b. held b) (λ b. step b) (W.sites sites.old.own) sites.old.brought.items) config.now result
         ⊎ (result ≡ no_memory) }
 {
     match rows_within(alloc, config, names) {
@@ -44,15 +45,15 @@ pub(crate) fn site(
 
 /// What the checks find in the classes of the rows, which are those of the configuration, unless a representative
 /// reaches too many pairs of state and type.
-fn find(
+fn find<W: Watchers>(
     alloc: Global,
     config: &Config,
     rows: &[ClassRow],
-    sites: &mut Vec<Box<dyn SiteCheck>>,
+    sites: &mut ShownChecks<W>,
 ) -> Ending
     requires { AreListed (ground_of config.now) [] (classes_of_rows rows.now) }
     ensures { WithinStates config.now site_rewrites
-        (TellsFindings config.now (map (λ b. record { name = name b; held = held b; step = step b }) sites.old.items) result) result
+        (TellsFindings config.now (sites_of (λ b. name b) (λ b. held b) (λ b. step b) (W.sites sites.old.own) sites.old.brought.items) result) result
         ⊎ (result ≡ no_memory) }
 {
     match QueryGraphs::prepare(alloc, config, USUAL_REWRITES, MOST_STATES) {
@@ -62,21 +63,21 @@ fn find(
 }
 
 /// What the checks find in the classes of the rows, by the graphs of their representatives.
-fn find_by(
+fn find_by<W: Watchers>(
     alloc: Global,
     graphs: &QueryGraphs<'_>,
     rows: &[ClassRow],
-    sites: &mut Vec<Box<dyn SiteCheck>>,
+    sites: &mut ShownChecks<W>,
 ) -> Ending
     requires limits { graphs.now ≡ limited_to graphs.now.config site_rewrites most_states }
     requires listed { AreListed (ground_of graphs.now.config) [] (classes_of_rows rows.now) }
     ensures { WithinStates graphs.now.config site_rewrites
-        (TellsFindings graphs.now.config (map (λ b. record { name = name b; held = held b; step = step b }) sites.old.items) result) result
+        (TellsFindings graphs.now.config (sites_of (λ b. name b) (λ b. held b) (λ b. step b) (W.sites sites.old.own) sites.old.brought.items) result) result
         ⊎ (result ≡ no_memory) }
 {
     match show_rows(alloc, graphs, rows, sites) {
         Ok(()) => match graphs.sets() {
-            Ok(_) => Ending::written(Status::Clean, text_of(alloc, sites.as_slice())),
+            Ok(_) => Ending::written(Status::Clean, text_of(alloc, sites)),
             // Where a server's name reaches too many pairs, so does some representative, and the run has ended for it.
             Err(_) => unreachable!(),
         },
@@ -85,22 +86,24 @@ fn find_by(
 }
 
 /// The text of what the checks tell.
-fn text_of(alloc: Global, sites: &[Box<dyn SiteCheck>]) -> Result<Octets, NoMemory>
-    ensures { IfOk result (λ text. text ≡ sites_text (map (λ b. record { title = name b; findings = held b }) sites.now)) }
+fn text_of<W: Watchers>(alloc: Global, sites: &ShownChecks<W>) -> Result<Octets, NoMemory>
+    ensures { IfOk result (λ text. text ≡ sites_text (map (told_by []) (sites_of (λ b. name b) (λ b. held b) (λ b. step b) (W.sites sites.now.own) sites.now.brought.items))) }
 {
-    let told = tell(alloc, sites)?;
+    let told = findings(alloc, sites)?;
     sites_text(alloc, told.items())
 }
 
 /// Shows the views of the classes of the rows to all checks, in order, up to the first representative that reaches too many
 /// pairs of state and type; then it is how the run ends.
-pub(crate) fn show_rows(
+pub(crate) fn show_rows<W: Watchers>(
     alloc: Global,
     graphs: &QueryGraphs<'_>,
     rows: &[ClassRow],
-    sites: &mut Vec<Box<dyn SiteCheck>>,
+    sites: &mut ShownChecks<W>,
 ) -> Result<(), Ending>
-    ensures ok { OnOk result (AreShown (λ b. name b) (λ b. held b) (λ b. step b) graphs.now (classes_of_rows rows.now) sites.old.items sites.new.items) }
+    ensures ok { OnOk result (AreShown graphs.now (classes_of_rows rows.now)
+        (sites_of (λ b. name b) (λ b. held b) (λ b. step b) (W.sites sites.old.own) sites.old.brought.items)
+        (sites_of (λ b. name b) (λ b. held b) (λ b. step b) (W.sites sites.new.own) sites.new.brought.items)) }
     ensures err { IfErr result (EndsAmongClasses graphs.now (classes_of_rows rows.now)) }
 {
     let mut last = None;
@@ -111,16 +114,18 @@ pub(crate) fn show_rows(
 }
 
 /// Shows the views of the classes of a row to all checks.
-fn show_row(
+fn show_row<W: Watchers>(
     alloc: Global,
     graphs: &QueryGraphs<'_>,
     row: &ClassRow,
     last: &mut Option<HeldView>,
-    sites: &mut Vec<Box<dyn SiteCheck>>,
+    sites: &mut ShownChecks<W>,
 ) -> Result<(), Ending>
     requires { IfSome last.old (IsHeld graphs.now) }
     ensures last { OnOk result (IfSome last.new (IsHeld graphs.now)) }
-    ensures ok { OnOk result (AreShown (λ b. name b) (λ b. held b) (λ b. step b) graphs.now (classes_of_row row.now) sites.old.items sites.new.items) }
+    ensures ok { OnOk result (AreShown graphs.now (classes_of_row row.now)
+        (sites_of (λ b. name b) (λ b. held b) (λ b. step b) (W.sites sites.old.own) sites.old.brought.items)
+        (sites_of (λ b. name b) (λ b. held b) (λ b. step b) (W.sites sites.new.own) sites.new.brought.items)) }
     ensures err { IfErr result (EndsAmongClasses graphs.now (classes_of_row row.now)) }
 {
     let exact = Class::Exact(row.name.copy(alloc)?);
@@ -136,18 +141,19 @@ fn show_row(
 
 /// Shows the view of a class for which the query stands to all checks. Where queries walk as one name does, one graph
 /// serves for all of them that come one behind another.
-fn show_class(
+fn show_class<W: Watchers>(
     alloc: Global,
     graphs: &QueryGraphs<'_>,
     class: &Class,
     query: &Name,
     last: &mut Option<HeldView>,
-    sites: &mut Vec<Box<dyn SiteCheck>>,
+    sites: &mut ShownChecks<W>,
 ) -> Result<(), Ending>
     requires { IfSome last.old (IsHeld graphs.now) }
     ensures last { OnOk result (IfSome last.new (IsHeld graphs.now)) }
-    ensures ok { OnOk result (AreShown (λ b. name b) (λ b. held b) (λ b. step b) graphs.now
-        (record { class = class.now; representative = query.now } ∷ []) sites.old.items sites.new.items) }
+    ensures ok { OnOk result (AreShown graphs.now (record { class = class.now; representative = query.now } ∷ [])
+        (sites_of (λ b. name b) (λ b. held b) (λ b. step b) (W.sites sites.old.own) sites.old.brought.items)
+        (sites_of (λ b. name b) (λ b. held b) (λ b. step b) (W.sites sites.new.own) sites.new.brought.items)) }
     ensures err { IfErr result (EndsAmongClasses graphs.now (record { class = class.now; representative = query.now } ∷ [])) }
 {
     match graphs.walks_as(query) {
@@ -157,20 +163,21 @@ fn show_class(
 }
 
 /// Shows the view of a class to all checks, for which a query stands that walks as the name does.
-fn show_like(
+fn show_like<W: Watchers>(
     alloc: Global,
     graphs: &QueryGraphs<'_>,
     class: &Class,
     query: &Name,
     like: &Name,
     last: &mut Option<HeldView>,
-    sites: &mut Vec<Box<dyn SiteCheck>>,
+    sites: &mut ShownChecks<W>,
 ) -> Result<(), Ending>
     requires like { WalksLike graphs.now like.now query.now }
     requires last { IfSome last.old (IsHeld graphs.now) }
     ensures last { OnOk result (IfSome last.new (IsHeld graphs.now)) }
-    ensures ok { OnOk result (AreShown (λ b. name b) (λ b. held b) (λ b. step b) graphs.now
-        (record { class = class.now; representative = query.now } ∷ []) sites.old.items sites.new.items) }
+    ensures ok { OnOk result (AreShown graphs.now (record { class = class.now; representative = query.now } ∷ [])
+        (sites_of (λ b. name b) (λ b. held b) (λ b. step b) (W.sites sites.old.own) sites.old.brought.items)
+        (sites_of (λ b. name b) (λ b. held b) (λ b. step b) (W.sites sites.new.own) sites.new.brought.items)) }
     ensures err { IfErr result (EndsAmongClasses graphs.now (record { class = class.now; representative = query.now } ∷ [])) }
 {
     hold(alloc, graphs, class, like, last)?;
@@ -186,15 +193,16 @@ fn show_like(
 
 /// Shows the view of a class to all checks, by the graph of the query that stands for it. Where the name of some server
 /// reaches too many pairs of state and type, there is none to be shown: some representative reaches too many then.
-fn show_by_graph(
+fn show_by_graph<W: Watchers>(
     alloc: Global,
     graphs: &QueryGraphs<'_>,
     class: &Class,
     query: &Name,
-    sites: &mut Vec<Box<dyn SiteCheck>>,
+    sites: &mut ShownChecks<W>,
 ) -> Result<(), Ending>
-    ensures ok { OnOk result (AreShown (λ b. name b) (λ b. held b) (λ b. step b) graphs.now
-        (record { class = class.now; representative = query.now } ∷ []) sites.old.items sites.new.items) }
+    ensures ok { OnOk result (AreShown graphs.now (record { class = class.now; representative = query.now } ∷ [])
+        (sites_of (λ b. name b) (λ b. held b) (λ b. step b) (W.sites sites.old.own) sites.old.brought.items)
+        (sites_of (λ b. name b) (λ b. held b) (λ b. step b) (W.sites sites.new.own) sites.new.brought.items)) }
     ensures err { IfErr result (EndsAmongClasses graphs.now (record { class = class.now; representative = query.now } ∷ [])) }
 {
     match graphs.graph(query) {

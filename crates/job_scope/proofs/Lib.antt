@@ -1,2 +1,4 @@
+pub mod BaseScopes
 pub mod OneRefusal
+pub mod ScopeSubjects
 pub mod Scopes

@@ -1,13 +1,13 @@
 -- What `check`, `drill`, `site`, `classes` and `scope` give of a configuration there is: whether a limit is passed is
 -- decided, and if none is there is a report, or a list of views or of classes.
-use Rattle.std.proofs.Common.{◌≡◌, ◌⊎◌, ℕ, List, [], ◌∷◌, map, Contains, Less, refl, sym, subst, inl, inr}
+use Rattle.std.proofs.Common.{◌≡◌, ◌⊎◌, ℕ, Bool, true, false, List, [], ◌∷◌, map, Contains, Less, refl, sym, subst, inl, inr}
 use Rattle.std.proofs.lemmas.List.Elements.{Contains-append_right}
 use Rattle.dns_data.specs.Name.{Labels, IsName}
 use Rattle.dns_data.specs.declared.rr_type.RrType.{RrType}
-use Rattle.dns_data.proofs.Membership.{has_first, map_has, from_map, pairs_of_images}
+use Rattle.dns_data.proofs.Membership.{has_first, has_later, map_has, from_map, pairs_of_images}
 use Rattle.dns_data.proofs.Names.{all_so}
 use Rattle.graph_form.specs.Report.{Subject}
-use Rattle.groot_run.specs.Outcome.{HasMoreNames, WithinNames, WithinStates, IsReported, Checks, IsDrilled, Drills, TellsFindings, ShowsClasses, IsClassList, ListsClasses, Scopes, reported, drilled, listed, told_of_views, drill_rewrites, site_rewrites, scope_rewrites, scope_of, scope_written, too_many_states}
+use Rattle.groot_run.specs.Outcome.{HasMoreNames, WithinNames, WithinStates, IsReported, Checks, IsDrilled, Drills, TellsFindings, ShowsClasses, IsClassList, ListsClasses, EndsBehind, Scopes, ScopesEach, reported, drilled, listed, told_of_views, drill_rewrites, site_rewrites, scope_rewrites, scope_of, scope_written, too_many_states, with_scope, own_sites}
 use Rattle.job_scope.proofs.Scopes.{is_covered}
 use Rattle.label_graph.specs.LiveSet.{IsClosed}
 use Rattle.net_model.specs.declared.config.Config.{Config}
@@ -31,7 +31,8 @@ use Rattle.query_verdicts.specs.Verdict.{PassesStates}
 use Rattle.query_verdicts.proofs.CoveringGrounds.{is_closed, root_in_tree}
 use Rattle.query_verdicts.proofs.VerdictsExist.{passes_decided}
 use Rattle.run_endings.specs.declared.ending.Ending.{Ending}
-use Rattle.run_endings.specs.Endings.{too_many_names}
+use Rattle.run_endings.specs.declared.status.Status.TheVariants.{Clean}
+use Rattle.run_endings.specs.Endings.{too_many_names, with_output, writes_nothing}
 use Rattle.site_checks.specs.Ends.{ends_of}
 use Rattle.site_checks.specs.Views.{AreViews, IsView, Site}
 use Rattle.site_checks.specs.declared.views.View.{View}
@@ -236,3 +237,25 @@ scope_ends limit name sites config is servers =
   where
     covered : IsCovering (scope_of config name)
     covered = is_covered config scope_rewrites name is
+
+-- names end behind what is written of others, if the first has this scope and the others end
+one_more : (IsScope : Labels → Ending → Type 0) (so_far : Ending) (name : Labels) (names : List Labels) (scope : Ending) → IsScope name scope
+    → (ending : Ending) × EndsBehind IsScope (with_scope so_far scope) names ending → (silent : Bool) → writes_nothing scope.status ≡ silent
+    → (ending : Ending) × EndsBehind IsScope so_far (name ∷ names) ending
+one_more IsScope so_far name names scope is rest true silent = (scope, (scope, is, inl (silent, refl)))
+one_more IsScope so_far name names scope is rest false written = (rest.0, (scope, is, inr (written, rest.1)))
+
+-- they end, if each has a scope
+ends_behind : (IsScope : Labels → Ending → Type 0) (so_far : Ending) (names : List Labels) → ((name : Labels) → Contains names name → (ending : Ending) × IsScope name ending)
+    → (ending : Ending) × EndsBehind IsScope so_far names ending
+ends_behind IsScope so_far [] each = (so_far, refl)
+ends_behind IsScope so_far (name ∷ names) each =
+    let first = each name (has_first name names) in
+    one_more IsScope so_far name names first.0 first.1
+    (ends_behind IsScope (with_scope so_far first.0) names (λ other has. each other (has_later name names other has))) (writes_nothing first.0.status) refl
+
+-- and so end the scopes of names
+pub scopes_end : (limit : ℕ) (names : List Labels) (config : Config) → ((name : Labels) → Contains names name → IsName name)
+    → ((server : Labels) → Contains (server_names config) server → IsName server) → (ending : Ending) × ScopesEach limit config names ending
+scopes_end limit names config are servers =
+    ends_behind (λ name. Scopes limit name own_sites config) (with_output Clean []) names (λ name has. scope_ends limit name own_sites config (are name has) servers)

@@ -12,7 +12,8 @@ use Rattle.net_model.specs.declared.fault.Fault.{Fault}
 use Rattle.net_model.specs.FaultOrder.{fault_cmp}
 use Rattle.net_model.specs.Order.{in_order}
 use Rattle.net_model.proofs.FaultOrder.{faults_total}
-use Rattle.plain_words.proofs.OrderedItems.{order_rises, order_has, from_order}
+use Rattle.net_model.proofs.ItemsInOrder.{from_order}
+use Rattle.plain_words.proofs.OrderedItems.{order_rises, order_has}
 
 module _ {T : Type 0} (fault_of : T → Fault) (rank : T → T → Ordering) (total : IsTotalOrder rank) (all : List T) where
   -- the item has the fault
@@ -80,7 +81,7 @@ module _ {T : Type 0} (fault_of : T → Fault) (rank : T → T → Ordering) (to
   firsts_exist =
       let faults = in_order fault_cmp (map fault_of all) in
       let (first, are) = firsts_of faults (order_rises fault_cmp faults_total (map fault_of all))
-      (λ fault has. from_map fault_of all fault (from_order fault_cmp faults_total (map fault_of all) fault has)) in (
+      (λ fault has. from_map fault_of all fault (from_order fault_cmp (map fault_of all) fault has)) in (
         first,
         record {
           ordered = are.rises;

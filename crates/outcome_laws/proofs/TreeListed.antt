@@ -18,8 +18,9 @@ use Rattle.net_model.specs.Order.{in_order}
 use Rattle.net_model.specs.Reading.{Ground}
 use Rattle.net_model.specs.Tree.{IsInPart, IsTreePart, AreBelowClasses}
 use Rattle.net_model.proofs.FaultOrder.{classes_total, one_class}
+use Rattle.net_model.proofs.ItemsInOrder.{from_order}
 use Rattle.net_model.proofs.TrialOrder.{one_representative}
-use Rattle.plain_words.proofs.OrderedItems.{order_rises, order_has, from_order}
+use Rattle.plain_words.proofs.OrderedItems.{order_rises, order_has}
 use Rattle.query_classes.specs.Children.{IsInTree}
 use Rattle.query_classes.specs.ClassList.{ListedClass, IsListed, AreListed}
 use Rattle.query_classes.proofs.Decided.{Decided, chosen}
@@ -93,7 +94,7 @@ module _ (ground : Ground) (closed : IsClosed ground) where
         record {
           ordered = order_rises name_cmp names_total all;
           all = λ name. (
-            λ has. in_part_within depth from name in_tree (from_order name_cmp names_total all name has),
+            λ has. in_part_within depth from name in_tree (from_order name_cmp all name has),
             λ is. order_has name_cmp names_total (λ name. Unit {0}) (λ a b p q tie. same_names a b tie) all (λ y has. tt) name (there name is),
           );
         },
@@ -133,7 +134,7 @@ module _ (ground : Ground) (closed : IsClosed ground) where
         record {
           ordered = order_rises name_cmp names_total some;
           all = λ above. (
-            λ has. (are above).0 (from_order name_cmp names_total some above has),
+            λ has. (are above).0 (from_order name_cmp some above has),
             λ is. order_has name_cmp names_total (λ name. Unit {0}) (λ a b p q tie. same_names a b tie) some (λ y has. tt) above ((are above).1 is),
           );
         },
@@ -202,7 +203,7 @@ module _ (ground : Ground) (closed : IsClosed ground) where
         record {
           ordered = order_rises listed_cmp listed_total all;
           all = λ one. (
-            λ has. each one (from_order listed_cmp listed_total all one has),
+            λ has. each one (from_order listed_cmp all one has),
             λ listed. order_has listed_cmp listed_total (IsListed ground from) (one_listed from) all each one
                 (flat_map_has by_name part (class_name one.class) one ((is.all (class_name one.class)).1 listed.0) (has_by_name one.class one.representative listed.1)),
           );

@@ -5,7 +5,7 @@ ghost use Rattle.dns_data.specs.Name.{Labels, IsName};
 ghost use Rattle.dns_data.specs.declared.rr_type.RrType.{RrType};
 ghost use Rattle.graph_form.specs.Report.{Subject, IsReport};
 ghost use Rattle.graph_form.specs.declared.report.Report.{Report};
-ghost use Rattle.groot_run.specs.Outcome.{Asks, Checks, Compares, Drills, IsRechecked, IsReported, ListsClasses, Scopes, ShowsClasses};
+ghost use Rattle.groot_run.specs.Outcome.{Asks, Checks, Compares, Drills, IsRechecked, IsReported, ListsClasses, Scopes, ScopesEach, ShowsClasses};
 ghost use Rattle.net_model.specs.declared.config.Config.{Config};
 ghost use Rattle.net_model.specs.Nearest.{server_names};
 ghost use Rattle.outcome_laws.specs.Parts.{HasEntries, HasFaults, IsWritten};
@@ -30,7 +30,7 @@ pub fn report_parts()
 {}
 
 /// What each command gives of the configurations that it reads, and `recheck` of a report's octets, there is: a text, or
-/// that a limit is passed. Of `scope` it is so if the scope's name and the servers' are names.
+/// that a limit is passed. Of `scope` it is so if the scope's name and the servers' are names, and likewise of `scopes`.
 pub fn outcomes_exist()
     ensures check { (limit rewrites : ℕ) (config : Config) → (ending : Ending) × Checks limit rewrites config ending }
     ensures drill { (limit zones : ℕ) (config : Config) → (ending : Ending) × Drills limit zones config ending }
@@ -42,4 +42,7 @@ pub fn outcomes_exist()
     ensures scope { (limit : ℕ) (name : Labels) (sites : List Site) (config : Config) → IsName name
         → ((server : Labels) → Contains (server_names config) server → IsName server)
         → (ending : Ending) × Scopes limit name sites config ending }
+    ensures scopes { (limit : ℕ) (names : List Labels) (config : Config) → ((name : Labels) → Contains names name → IsName name)
+        → ((server : Labels) → Contains (server_names config) server → IsName server)
+        → (ending : Ending) × ScopesEach limit config names ending }
 {}

@@ -18,7 +18,7 @@ use Rattle.net_model.specs.declared.config.Zone.{Zone}
 use Rattle.net_model.specs.declared.walk.State.{State}
 use Rattle.net_model.specs.Zone.{exists_in}
 use Rattle.net_model.proofs.Descent.{prefix_exists}
-use Rattle.zone_tree.proofs.SearchedNames.{none_below}
+use Rattle.name_table.proofs.Tables.{none_below}
 use Rattle.query_verdicts.specs.AlikeBelow.{AreAlikeBelow, HasNoneBelow, IsAlikeBelow, IsFitBelow, IsOpenGraph, IsOpenNode, IsOpenState}
 use Rattle.query_verdicts.specs.declared.alike.AlikeBelow.{AlikeBelow}
 

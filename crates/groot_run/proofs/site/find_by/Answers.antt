@@ -11,8 +11,7 @@ unreachable-requires g c =
 pub returns-in-Ok-sets : goal.returns-in-Ok-sets
 returns-in-Ok-sets g c =
     elim (c.written.ensures _ c.text_of.ensures) [
-      | inl is ↦ inl (told c.args.graphs.now c.requires.limits (classes_of_rows c.args.rows.now) c.requires.listed _ _ _ c.args.sites.now.items
-          c.show_rows.new.sites.items c.as_slice.result.now c.in-Ok.ensures.ok c.as_slice.ensures.value c.in-Ok-sets.ensures.sets.none_passes c.written.result is)
+      | inl is ↦ inl (told c.args.graphs.now c.requires.limits (classes_of_rows c.args.rows.now) c.requires.listed _ _ c.in-Ok.ensures.ok c.in-Ok-sets.ensures.sets.none_passes c.written.result is)
       | inr ran_out ↦ inr ran_out
     ]
 

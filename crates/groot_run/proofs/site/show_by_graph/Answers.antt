@@ -13,7 +13,7 @@ returns-in_ok-show-in-Ok-Some-clause-ok g c =
     let is =
     subst (λ (found : Option PlainGraph). MatchOption found (ServerPasses queries) (IsLeastGraph queries.config queries.rewrites c.args.query.now)) c.in-Ok-Some.field-0-is
     c.in-Ok-Some.ensures.graph in
-    shown_one queries _ _ _ c.args.class.now c.args.query.now c.in-Ok-Some.graph c.in_ok-seen-in-Ok-Some.seen _ _ is c.in-Ok-Some.ensures.few
+    shown_one queries c.args.class.now c.args.query.now c.in-Ok-Some.graph c.in_ok-seen-in-Ok-Some.seen _ _ is c.in-Ok-Some.ensures.few
     seen.class seen.query seen.ends c.in_ok-show-in-Ok-Some.ensures
 
 pub returns-in-Err-StatesPassed-clause-err : goal.returns-in-Err-StatesPassed-clause-err

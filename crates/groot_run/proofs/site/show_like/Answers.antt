@@ -13,5 +13,5 @@ returns-in_ok-show-in-Some-clause-ok g c =
     let told = c.in_ok-change_class-in-Some.ensures in
     let view = c.change_class.new.view in
     let is = subst (λ (last : Option HeldView). MatchOption last (ServerPasses queries) (IsHeldOf queries c.args.like.now)) c.in-Some.is c.in_ok-hold.ensures in
-    shown_view queries _ _ _ c.args.class.now c.args.query.now view _ _ c.requires.like.few told.class told.query
+    shown_view queries c.args.class.now c.args.query.now view _ _ c.requires.like.few told.class told.query
     (held_ends queries c.in-Some.one c.args.like.now c.args.query.now view is.1 is.0 c.requires.like told.query told.ends) c.in_ok-show-in-Some.ensures

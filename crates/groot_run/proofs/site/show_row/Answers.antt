@@ -16,7 +16,7 @@ returns-in_err-show_class-clause-err g c =
 pub returns-in-Some-clause-ok : goal.returns-in-Some-clause-ok
 returns-in-Some-clause-ok g c =
     on_ok_weaker c.show_class-in-Some.result
-    (λ below. shown_both _ _ _ _ c.args.row.now _ _ _ _ c.show_class.new.sites.items _ c.in-Some.is (ap Exact c.in_ok-copy.ensures) (ap Below c.in_ok-copy-in-Some.ensures)
+    (λ below. shown_both _ c.args.row.now _ _ _ _ _ _ c.in-Some.is (ap Exact c.in_ok-copy.ensures) (ap Below c.in_ok-copy-in-Some.ensures)
     c.in_ok-show_class.ensures.ok below)
     c.show_class-in-Some.ensures.ok
 

@@ -5,20 +5,20 @@ use Rattle.groot_run.proofs.ShownClasses.{shown_none, shown_row, shown_all, ends
 use Rattle.groot_run.proofs.site.show_rows.Goals as goal
 
 pub loop-row-init : goal.loop-row-init
-loop-row-init g c = record { shown = shown_none _ _ _ _ _; last = tt }
+loop-row-init g c = record { shown = shown_none _ _; last = tt }
 
 pub show_row-requires : goal.show_row-requires
 show_row-requires g c = c.loop-row.invariant.last
 
 pub loop-row-preserved : goal.loop-row-preserved
 loop-row-preserved g c = record {
-  shown = shown_row _ _ _ _ c.args.rows.now c.loop-row.row-index c.row-item.result _ c.loop-row.sites.items _ c.loop-row-test.true c.row-item.is c.loop-row.invariant.shown
+  shown = shown_row _ c.args.rows.now c.loop-row.row-index c.row-item.result _ _ _ c.loop-row-test.true c.row-item.is c.loop-row.invariant.shown
       c.in_ok-show_row.ensures.ok;
   last = c.in_ok-show_row.ensures.last;
 }
 
 pub returns-clause-ok : goal.returns-clause-ok
-returns-clause-ok g c = shown_all _ _ _ _ c.args.rows.now c.loop-row.row-index _ _ c.loop-row-test.false c.loop-row.invariant.shown
+returns-clause-ok g c = shown_all _ c.args.rows.now c.loop-row.row-index _ _ c.loop-row-test.false c.loop-row.invariant.shown
 
 pub returns-in_err-show_row-clause-err : goal.returns-in_err-show_row-clause-err
 returns-in_err-show_row-clause-err g c =

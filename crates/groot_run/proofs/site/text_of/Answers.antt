@@ -1,10 +1,9 @@
 use Rattle.std.proofs.Common.{List, IfOk, ◌≡◌, ◌∙◌, subst}
 use Rattle.report_json.specs.Sites.{sites_text}
 use Rattle.site_checks.specs.declared.shown.SiteFindings.{SiteFindings}
-use Rattle.site_checks.proofs.Seen.{tell_all}
 use Rattle.groot_run.proofs.site.text_of.Goals as goal
 
 pub returns : goal.returns
 returns g c =
     subst (λ (told : List SiteFindings). IfOk c.sites_text.result (λ text. text ≡ sites_text told))
-    (c.items.ensures ∙ tell_all _ _ (λ b held view. held) c.args.sites.now c.in_ok-told.told c.in_ok-told.ensures) c.sites_text.ensures
+    (c.items.ensures ∙ c.in_ok-told.ensures) c.sites_text.ensures

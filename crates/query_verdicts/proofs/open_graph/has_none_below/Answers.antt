@@ -1,6 +1,6 @@
 use Rattle.std.proofs.Common.{◌≡◌, ◌∙◌, ◌+◌, Bool, true, false, not, List, [], get_or, length, refl, sym, ap, subst₂, arith}
 use Rattle.dns_data.specs.Name.{Labels, is_prefix}
-use Rattle.zone_tree.proofs.SearchedNames.{read_at}
+use Rattle.name_table.proofs.SearchedNames.{read_at}
 use Rattle.query_verdicts.proofs.OpenNodes.{none_behind, none_missing}
 use Rattle.query_verdicts.proofs.open_graph.has_none_below.Goals as goal
 

@@ -1,7 +1,7 @@
 use Rattle.std.proofs.Common.{◌∷◌, []}
 use Rattle.site_checks.specs.Shown.{HasSeen}
 use Rattle.groot_run.proofs.Places.{IsDoneTo}
-use Rattle.groot_run.proofs.shown.show.Given as goal
+use Rattle.groot_run.proofs.shown.show_brought.Given as goal
 
 -- the checks so far have seen the view, and the others are as they were
 abbrev pub invariant-loop-i : goal.invariant-loop-i

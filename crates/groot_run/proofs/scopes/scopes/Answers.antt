@@ -1,0 +1,26 @@
+use Rattle.config_load.proofs.Steady.{conf_is_steady, opens_both, opens_first}
+use Rattle.config_load.specs.Reading.{file_octets}
+use Rattle.groot_run.specs.Outcome.{ScopesOf}
+use Rattle.groot_run.specs.Programs.{conf_of, limits_of}
+use Rattle.groot_run.proofs.TwoReadings.{over_both, over_neither}
+use Rattle.groot_run.proofs.scopes.scopes.Goals as goal
+
+pub returns-in-Ok-clause-cause : goal.returns-in-Ok-clause-cause
+returns-in-Ok-clause-cause g c =
+    over_both c.args.program c.args.meta.now (file_octets (limits_of c.args.program) c.args.list.now) (ScopesOf c.args.program (g.F.Files.told c.of_config-ending.new.files) c.args.list.now) c.of_config-ending.result (g.F.Files.told c.configuration.new.files) (g.F.Files.told c.of_config-ending.new.files)
+    (g.F.Files.faults c.args.files.now) (g.F.Files.faults c.configuration.new.files) (g.F.Files.faults c.of_config-ending.new.files) c.in-Ok.config c.in-Ok.ensures.ok
+    c.of_config-ending.ensures.stays c.configuration.ensures.never_fall c.of_config-ending.ensures.cause
+
+pub returns-in-Ok-clause-opens : goal.returns-in-Ok-clause-opens
+returns-in-Ok-clause-opens g c =
+    opens_both (conf_of c.args.program c.args.meta.now) (file_octets (limits_of c.args.program) c.args.list.now) (conf_is_steady (limits_of c.args.program) c.args.meta.now) (g.F.Files.told c.args.files.now) (g.F.Files.told c.configuration.new.files)
+    (g.F.Files.told c.of_config-ending.new.files) c.in-Ok.config c.of_config-ending.ensures.stays c.in-Ok.ensures.ok c.configuration.ensures.opens c.of_config-ending.ensures.opens
+
+pub returns-in-Err-clause-cause : goal.returns-in-Err-clause-cause
+returns-in-Err-clause-cause g c =
+    over_neither c.args.program c.args.meta.now (file_octets (limits_of c.args.program) c.args.list.now) (ScopesOf c.args.program (g.F.Files.told c.configuration.new.files) c.args.list.now) c.in-Err.ending (g.F.Files.told c.configuration.new.files) (g.F.Files.faults c.args.files.now) (g.F.Files.faults c.configuration.new.files)
+    c.in-Err.ensures.err
+
+pub returns-in-Err-clause-opens : goal.returns-in-Err-clause-opens
+returns-in-Err-clause-opens g c =
+    opens_first (conf_of c.args.program c.args.meta.now) (file_octets (limits_of c.args.program) c.args.list.now) (g.F.Files.told c.args.files.now) (g.F.Files.told c.configuration.new.files) c.configuration.ensures.opens
