@@ -55,7 +55,10 @@ fn of_reports<F: Files>(alloc: Global, files: &mut F, names: &[Text]) -> Ending
     ensures { JobEnds (Some names.now) (files_of F.told F.faults files.old files.new) result }
 {
     match read_reports(alloc, files, names) {
-        Ok(parts) => merged_ending(alloc, names, parts),
+        Ok(parts) => {
+            files.let_go_of_all();
+            merged_ending(alloc, names, parts)
+        }
         Err(fault) => not_read(alloc, fault),
     }
 }

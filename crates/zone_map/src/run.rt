@@ -104,7 +104,10 @@ fn of_job<F: Files>(alloc: Global, files: &mut F, job: &MapJob) -> Ending
 {
     let meta = job.meta.as_str();
     match load_with_files(alloc, Limits::largest(), files, meta) {
-        Ok(all) => told(alloc, job.asked, &all),
+        Ok(all) => {
+            files.let_go_of_all();
+            told(alloc, job.asked, &all)
+        }
         Err(fault) => Ending::not_loaded(alloc, meta, fault),
     }
 }
