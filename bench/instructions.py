@@ -20,7 +20,7 @@ import subprocess
 import tempfile
 from typing import Callable, NamedTuple, Optional
 
-from make_zone import aliases, redirected, registry, write_example, write_hosted, write_zone
+from make_zone import aliases, redirected, registry, write_example, write_hosted, write_on_all, write_without_above, write_zone
 from measure import GROOT, HERE, metadata, program
 
 SECONDS = 1800
@@ -38,7 +38,8 @@ def mixed(octets, folder):
 
 class Input(NamedTuple):
     """What is made, and of which size; a function of the size and the folder that returns the rows of the metadata; and how
-    many millions of instructions are wanted of the whole check and of reading, and how many times those of a tenth, at most."""
+    many millions of instructions are wanted of the whole check and of reading, and how many times those of a tenth, at most; and
+    whether all servers are top servers, or the first alone."""
 
     title: str
     size: int
@@ -46,6 +47,7 @@ class Input(NamedTuple):
     check: int
     reading: Optional[int] = None
     growth: Optional[float] = None
+    all_top: bool = False
 
 
 INPUTS = [
@@ -54,6 +56,8 @@ INPUTS = [
     Input("mixed zone, octets", 1_677_721, mixed, 500, 140, MOST_GROWTH),
     Input("DNAME records onto 40 names", 2_000, lambda size, folder: write_example(redirected(size), folder), 2_200),
     Input("chain of aliases", 5_000, lambda size, folder: write_example(aliases(size), folder), 1_000),
+    Input("zones on two of eight top servers", 200, lambda size, folder: write_without_above(8, size, 100, folder), 200, all_top=True),
+    Input("zones on 13 servers each", 100, lambda size, folder: write_on_all(13, size, 100, folder), 300),
 ]
 
 
@@ -87,7 +91,8 @@ def counted_of(groot, given, size):
     """What is counted of a check of an input of this size."""
     with tempfile.TemporaryDirectory() as folder:
         rows = given.make(size, folder)
-        return counted(groot, metadata(folder, rows, rows[0]["NameServer"]), folder)
+        tops = dict.fromkeys(row["NameServer"] for row in (rows if given.all_top else rows[:1]))
+        return counted(groot, metadata(folder, rows, *tops), folder)
 
 
 def millions(number):

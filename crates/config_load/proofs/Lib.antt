@@ -10,6 +10,9 @@ pub mod ServerPlaces
 pub mod Sources
 pub mod Steady
 pub mod Steps
+mod KnownRows
+mod ReadAgain
+mod SmallerLimits
 mod Worked
 pub mod RowsRead
 pub mod ZonesGiven

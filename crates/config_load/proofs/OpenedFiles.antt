@@ -50,12 +50,13 @@ is_done (Include file) never = absurd (never file refl)
 is_done Done never = refl
 
 -- texts that ask for a file go on with it
-files_behind-asks : (meta : List ℕ) (origin : Labels) (left : Limits) (times : ℕ) (names texts : List (List ℕ)) (file : List ℕ) (told : FilesTold) → zone_text origin left.records left.includes texts ≡ Err (Asks file) → files_behind meta origin left (suc times) names texts told ≡ next_file meta origin left times names texts (joined meta file) told
+pub files_behind-asks : (meta : List ℕ) (origin : Labels) (left : Limits) (times : ℕ) (names texts : List (List ℕ)) (file : List ℕ) (told : FilesTold) → zone_text origin left.records left.includes texts ≡ Err (Asks file) → files_behind meta origin left (suc times) names texts told ≡ next_file meta origin left times names texts (joined meta file) told
 unfolding files_behind
 files_behind-asks meta origin left times names texts file told asks =
     ap (settled names (λ file. file_octets left (joined meta file) told >>= λ text. files_behind meta origin left times (names ++ joined meta file ∷ []) (texts ++ text ∷ []) told)) asks
 
-files_behind-gives : (meta : List ℕ) (origin : Labels) (left : Limits) (times : ℕ) (names texts : List (List ℕ)) (text : ZoneText) (told : FilesTold) → zone_text origin left.records left.includes texts ≡ Ok text → files_behind meta origin left times names texts told ≡ Reads (record { names = names; text = text })
+-- texts that give records are all
+pub files_behind-gives : (meta : List ℕ) (origin : Labels) (left : Limits) (times : ℕ) (names texts : List (List ℕ)) (text : ZoneText) (told : FilesTold) → zone_text origin left.records left.includes texts ≡ Ok text → files_behind meta origin left times names texts told ≡ Reads (record { names = names; text = text })
 unfolding files_behind
 files_behind-gives meta origin left zero names texts text told gives = ap (settled names (λ file. Unknown (joined meta file))) gives
 files_behind-gives meta origin left (suc times) names texts text told gives =

@@ -1,10 +1,8 @@
 -- Rows and zones, as rows are read one by one.
 use Rattle.std.proofs.Common.{◌≡◌, ℕ, ◌+◌, Bool, true, false, cond, List, [], ◌∷◌, ◌++◌, Some, None, Ok, Err, refl, sym, ap, ◌∙◌, subst, inl, inr, arith}
-use Rattle.std.specs.Prelude.{◌&&◌}
 use Rattle.std.proofs.lemmas.List.Elements.{Contains-append_cases, Contains-append_left, Contains-append_right}
-use Rattle.dns_data.specs.Name.{Labels, name_eq}
+use Rattle.dns_data.specs.Name.{Labels}
 use Rattle.dns_data.proofs.Membership.{first_or_later, has_first, none_in_nil, pairs_more}
-use Rattle.dns_data.proofs.Names.{name_eq_decides}
 use Rattle.io_edges.specs.Files.{FilesTold}
 use Rattle.meta_read.specs.declared.meta.Meta.{Meta as Metadata}
 use Rattle.meta_read.specs.declared.meta.MetaRow.{MetaRow}
@@ -12,6 +10,7 @@ use Rattle.net_model.specs.declared.config.Server.{Server}
 use Rattle.net_model.specs.declared.config.Zone.{Zone}
 use Rattle.config_load.specs.Conf.{left_behind, loaded_within, metadata, no_rows, row_files, with_row, with_rows, zone_files, zone_read}
 use Rattle.config_load.specs.Faults.{of_rule}
+use Rattle.config_load.specs.Hosted.{held_in}
 use Rattle.config_load.specs.Reading.{Reading, Reads, Refuses, Misses, Unknown, ◌>>=◌, unless_refused}
 use Rattle.config_load.specs.Servers.{given, has_zone, with_zone}
 use Rattle.config_load.specs.declared.fault.LoadFault.{LoadFault}
@@ -24,10 +23,10 @@ use Rattle.config_load.specs.declared.zone.ReadZone.{ReadZone}
 use Rattle.config_load.specs.declared.zone_files.ZoneFiles.{ZoneFiles}
 use Rattle.zone_rules.specs.ZoneOf.{zone_of}
 use Rattle.config_load.specs.RowZones.{HoldsRow, RowsHaveZones}
-use Rattle.config_load.proofs.ZonesGiven.{from_more, held_in, held_more, none_held}
+use Rattle.config_load.proofs.ZonesGiven.{from_more, held_new, held_stays, none_held}
 
 -- what was read is what the next step goes on with
-read_on : {A B : Type 0} (reading : Reading A) (next : A → Reading B) (value : B) → (reading >>= next) ≡ Reads value
+pub read_on : {A B : Type 0} (reading : Reading A) (next : A → Reading B) (value : B) → (reading >>= next) ≡ Reads value
     → (one : A) × (reading ≡ Reads one) × (next one ≡ Reads value)
 read_on (Reads one) next value is = (one, refl, is)
 read_on (Refuses fault) next value is = absurd cc
@@ -53,6 +52,40 @@ behind_zone number row rows read =
 abbrev behind_rows : Metadata → ReadRows → Reading Loaded
 behind_rows found rows = Reads (record { config = record { tops = found.tops; servers = rows.servers }; rows = rows.rows })
 
+-- a row that was read: its zone, which its server didn't have, and the rows with it
+pub record GivenRow (meta : List ℕ) (told : FilesTold) (row : MetaRow) (rows after : ReadRows) : Type 0 where
+  pub read : ReadZone
+  pub reads : zone_read meta row rows.left told ≡ Reads read
+  pub new : has_zone row.server read.zone.origin rows.servers ≡ false
+  pub made : record { left = read.left; servers = with_zone row.server read.zone rows.servers; rows = rows.rows ++ row_files row.server read ∷ [] } ≡ after
+
+module _ (meta : List ℕ) (told : FilesTold) where
+  -- what is left when a zone was read allows files as long as before
+  pub left_as_long : (row : MetaRow) (left : Limits) (read : ReadZone) → zone_read meta row left told ≡ Reads read → read.left.octets ≡ left.octets
+  unfolding zone_read
+  left_as_long row left read is =
+      let files = read_on (zone_files meta row left told) (behind_files row left) read is in
+      let zone = read_on (unless_refused (of_rule files.0.names) (zone_of row.origin files.0.text.rrs)) (behind_rules left files.0) read files.2 in
+      let last : record { zone = zone.0; names = files.0.names; left = left_behind left files.0.text } ≡ read = cc in
+      ap (λ (r : ReadZone). r.left.octets) (sym last)
+
+  -- the zone of a row that was read was given to its server
+  pub row_given : (number : ℕ) (row : MetaRow) (rows after : ReadRows) → with_row meta number row rows told ≡ Reads after → GivenRow meta told row rows after
+  unfolding with_row
+  row_given number row rows after is =
+      let zone = read_on (zone_read meta row rows.left told) (behind_zone number row rows) after is in
+      let servers = read_on (unless_refused (λ fault. fault) (given number row.server zone.0.zone rows.servers)) (behind_servers row rows zone.0) after zone.2 in
+      by zone.0 zone.1 servers.0 (has_zone row.server zone.0.zone.origin rows.servers) refl servers.1 servers.2
+    where
+      by : (read : ReadZone) → zone_read meta row rows.left told ≡ Reads read → (servers : List Server) → (b : Bool) → has_zone row.server read.zone.origin rows.servers ≡ b
+          → unless_refused (λ fault. fault) (cond b (Err (ZoneTwice number)) (Ok (with_zone row.server read.zone rows.servers))) ≡ Reads servers
+          → Reads (record { left = read.left; servers = servers; rows = rows.rows ++ row_files row.server read ∷ [] }) ≡ Reads after → GivenRow meta told row rows after
+      by read reads servers true had got made = absurd cc
+      by read reads servers false new got made =
+          let are : with_zone row.server read.zone rows.servers ≡ servers = cc in
+          let last : record { left = read.left; servers = servers; rows = rows.rows ++ row_files row.server read ∷ [] } ≡ after = cc in
+          record { read = read; reads = reads; new = new; made = subst (λ (all : List Server). record { left = read.left; servers = all; rows = rows.rows ++ row_files row.server read ∷ [] } ≡ after) (sym are) last }
+
 module _ (limits : Limits) (meta : List ℕ) (told : FilesTold) where
   -- so far rows and zones stand so
   abbrev Stand : List Labels → ReadRows → Type 0
@@ -66,29 +99,6 @@ module _ (limits : Limits) (meta : List ℕ) (told : FilesTold) where
     abbrev more : RowFiles
     more = row_files row.server read
 
-    none : held_in rows.servers row.server read.zone.origin ≡ None
-    none = none_held rows.servers row.server read.zone.origin new
-
-    -- what was found is found still
-    stays : (name origin : Labels) (zone : Zone) → held_in rows.servers name origin ≡ Some zone → held_in servers' name origin ≡ Some zone
-    stays name origin zone is =
-        held_more row.server read.zone rows.servers name origin none ∙ by (name_eq row.server name) refl (name_eq read.zone.origin origin) refl
-      where
-        by : (a : Bool) → name_eq row.server name ≡ a → (b : Bool) → name_eq read.zone.origin origin ≡ b
-            → cond (name_eq row.server name && name_eq read.zone.origin origin) (Some read.zone) (held_in rows.servers name origin) ≡ Some zone
-        by true e true f =
-            let here : None ≡ Some zone =
-            sym none ∙ (λ i. held_in rows.servers ((name_eq_decides row.server name).0 e i) ((name_eq_decides read.zone.origin origin).0 f i)) ∙ is in
-            absurd cc
-        by true e false f = (λ i. cond (e i && f i) (Some read.zone) (held_in rows.servers name origin)) ∙ is
-        by false e b f = (λ i. cond (e i && name_eq read.zone.origin origin) (Some read.zone) (held_in rows.servers name origin)) ∙ is
-
-    -- the new zone is found
-    there : held_in servers' row.server read.zone.origin ≡ Some read.zone
-    there =
-        held_more row.server read.zone rows.servers row.server read.zone.origin none
-        ∙ (λ i. cond ((name_eq_decides row.server row.server).1 refl i && (name_eq_decides read.zone.origin read.zone.origin).1 refl i) (Some read.zone) (held_in rows.servers row.server read.zone.origin))
-
     one_more : Stand tops (record { left = read.left; servers = servers'; rows = rows.rows ++ more ∷ [] })
     one_more =
         record {
@@ -96,10 +106,10 @@ module _ (limits : Limits) (meta : List ℕ) (told : FilesTold) where
               elim (Contains-append_cases rows.rows (more ∷ []) other has) [
                 | inl before ↦
                     let old = stand.rows other before in
-                    record { given = old.given; left = old.left; as_long = old.as_long; read = old.read; reads = old.reads; is = old.is; held = stays other.server other.origin old.read.zone old.held }
+                    record { given = old.given; left = old.left; as_long = old.as_long; read = old.read; reads = old.reads; is = old.is; held = held_stays row.server read.zone rows.servers new other.server other.origin old.read.zone old.held }
                 | inr last ↦
                     elim (first_or_later more [] other last) [
-                      | inl same ↦ subst (HoldsRow limits meta told (record { tops = tops; servers = servers' })) same (record { given = row; left = rows.left; as_long = as_long; read = read; reads = reads; is = refl; held = there })
+                      | inl same ↦ subst (HoldsRow limits meta told (record { tops = tops; servers = servers' })) same (record { given = row; left = rows.left; as_long = as_long; read = read; reads = reads; is = refl; held = held_new row.server read.zone rows.servers new })
                       | inr never ↦ absurd (none_in_nil other never)
                     ]
               ];
@@ -107,10 +117,10 @@ module _ (limits : Limits) (meta : List ℕ) (told : FilesTold) where
               elim (from_more row.server read.zone rows.servers server zone has among) [
                 | inl new_one ↦
                     subst (λ (z : Zone). held_in servers' server.name z.origin ≡ Some z) (sym new_one.1)
-                    (subst (λ (n : Labels). held_in servers' n read.zone.origin ≡ Some read.zone) (sym new_one.0) there)
+                    (subst (λ (n : Labels). held_in servers' n read.zone.origin ≡ Some read.zone) (sym new_one.0) (held_new row.server read.zone rows.servers new))
                 | inr old ↦
                     subst (λ (n : Labels). held_in servers' n zone.origin ≡ Some zone) old.2
-                    (stays old.0.name zone.origin zone (stand.found old.0 zone old.1 old.3))
+                    (held_stays row.server read.zone rows.servers new old.0.name zone.origin zone (stand.found old.0 zone old.1 old.3))
               ];
           zones = λ server zone has among.
               elim (from_more row.server read.zone rows.servers server zone has among) [
@@ -129,18 +139,9 @@ module _ (limits : Limits) (meta : List ℕ) (told : FilesTold) where
           once = pairs_more (λ (a b : RowFiles). a.server ≡ b.server → a.origin ≡ b.origin → ⊥) rows.rows more stand.once
               (λ other before named at.
               let held = (stand.rows other before).held in
-              let here : None ≡ Some (stand.rows other before).read.zone = sym none ∙ sym (λ i. held_in rows.servers (named i) (at i)) ∙ held in
+              let here : None ≡ Some (stand.rows other before).read.zone = sym (none_held rows.servers row.server read.zone.origin new) ∙ sym (λ i. held_in rows.servers (named i) (at i)) ∙ held in
               absurd cc);
         }
-
-  -- what is left when a zone was read allows files as long as before
-  left_as_long : (row : MetaRow) (left : Limits) (read : ReadZone) → zone_read meta row left told ≡ Reads read → read.left.octets ≡ left.octets
-  unfolding zone_read
-  left_as_long row left read is =
-      let files = read_on (zone_files meta row left told) (behind_files row left) read is in
-      let zone = read_on (unless_refused (of_rule files.0.names) (zone_of row.origin files.0.text.rrs)) (behind_rules left files.0) read files.2 in
-      let last : record { zone = zone.0; names = files.0.names; left = left_behind left files.0.text } ≡ read = cc in
-      ap (λ (r : ReadZone). r.left.octets) (sym last)
 
   -- the rows so far stand so, and what they left allows files as long as at first
   abbrev StandOn : List Labels → ReadRows → Type 0
@@ -148,24 +149,12 @@ module _ (limits : Limits) (meta : List ℕ) (told : FilesTold) where
 
   -- one row more
   row_stands : (tops : List Labels) (number : ℕ) (row : MetaRow) (rows after : ReadRows) → StandOn tops rows → with_row meta number row rows told ≡ Reads after → StandOn tops after
-  unfolding with_row
   row_stands tops number row rows after stand is =
-      let zone = read_on (zone_read meta row rows.left told) (behind_zone number row rows) after is in
-      let servers = read_on (unless_refused (λ fault. fault) (given number row.server zone.0.zone rows.servers)) (behind_servers row rows zone.0) after zone.2 in
-      by zone.0 zone.1 servers.0 (has_zone row.server zone.0.zone.origin rows.servers) refl servers.1 servers.2
-    where
-      by : (read : ReadZone) → zone_read meta row rows.left told ≡ Reads read → (servers : List Server) → (b : Bool) → has_zone row.server read.zone.origin rows.servers ≡ b
-          → unless_refused (λ fault. fault) (cond b (Err (ZoneTwice number)) (Ok (with_zone row.server read.zone rows.servers))) ≡ Reads servers
-          → Reads (record { left = read.left; servers = servers; rows = rows.rows ++ row_files row.server read ∷ [] }) ≡ Reads after → StandOn tops after
-      by read reads servers true had got made = absurd cc
-      by read reads servers false new got made =
-          let are : with_zone row.server read.zone rows.servers ≡ servers = cc in
-          let last : record { left = read.left; servers = servers; rows = rows.rows ++ row_files row.server read ∷ [] } ≡ after = cc in
-          subst (StandOn tops) last (
-            left_as_long row rows.left read reads ∙ stand.0,
-            subst (λ (all : List Server). Stand tops (record { left = read.left; servers = all; rows = rows.rows ++ row_files row.server read ∷ [] })) are
-                (one_more tops rows stand.0 stand.1 row read reads new),
-          )
+      let one = row_given meta told number row rows after is in
+      subst (StandOn tops) one.made (
+        left_as_long meta told row rows.left one.read one.reads ∙ stand.0,
+        one_more tops rows stand.0 stand.1 row one.read one.reads one.new,
+      )
 
   -- and the rows behind them
   rows_stand : (tops : List Labels) (number : ℕ) (more : List MetaRow) (rows after : ReadRows) → StandOn tops rows → with_rows meta number more rows told ≡ Reads after → StandOn tops after

@@ -78,7 +78,8 @@ zone_files_are_steady meta row left =
     bind_is_steady (file_octets left (joined meta row.file)) (λ told text. files_behind meta (unwrap_or row.origin []) left left.includes (joined meta row.file ∷ []) (text ∷ []) told)
     (file_is_steady left (joined meta row.file)) (λ text. files_are_steady meta (unwrap_or row.origin []) left left.includes (joined meta row.file ∷ []) (text ∷ []))
 
-zone_is_steady : (meta : List ℕ) (row : MetaRow) (left : Limits) → IsSteady (zone_read meta row left)
+-- the reading of a row's zone is steady
+pub zone_is_steady : (meta : List ℕ) (row : MetaRow) (left : Limits) → IsSteady (zone_read meta row left)
 unfolding zone_read
 zone_is_steady meta row left =
     bind_is_steady (zone_files meta row left)

@@ -11,14 +11,11 @@ use Rattle.dns_data.proofs.Searches.{any_has, found_there}
 use Rattle.net_model.specs.declared.config.Server.{Server}
 use Rattle.net_model.specs.declared.config.Zone.{Zone}
 use Rattle.net_model.specs.Nearest.{zone_with_origin}
+use Rattle.config_load.specs.Hosted.{held_in}
 use Rattle.config_load.specs.Servers.{has_zone, with_zone}
 
--- the zone with this origin that the first server of this name holds
-abbrev pub held_in : List Server → Labels → Labels → Option Zone
-held_in servers name origin =
-    option_and_then (λ (holder : Server). zone_with_origin holder origin) (find (λ (server : Server). name_eq server.name name) servers)
-
-turned : (a b : Labels) → name_eq a b ≡ name_eq b a
+-- names are one in either order
+pub turned : (a b : Labels) → name_eq a b ≡ name_eq b a
 turned a b = (lists_equiv nat_list_eq_equiv).symm a b
 
 -- a server that is found to hold a zone has it
@@ -122,6 +119,30 @@ module _ (name : Labels) (zone : Zone) where
           held_first server (with_zone name zone servers) other origin false f
           ∙ rest (sym (held_first server servers name zone.origin false (turned server.name name ∙ e)) ∙ none)
           ∙ ap (λ (held : Option Zone). cond (name_eq name other && name_eq zone.origin origin) (Some zone) held) (sym (held_first server servers other origin false f))
+
+  module _ (servers : List Server) (new : has_zone name zone.origin servers ≡ false) where
+    none : held_in servers name zone.origin ≡ None
+    none = none_held servers name zone.origin new
+
+    -- what was found is found still
+    pub held_stays : (other origin : Labels) (held : Zone) → held_in servers other origin ≡ Some held → held_in (with_zone name zone servers) other origin ≡ Some held
+    held_stays other origin held is =
+        held_more servers other origin none ∙ by (name_eq name other) refl (name_eq zone.origin origin) refl
+      where
+        by : (a : Bool) → name_eq name other ≡ a → (b : Bool) → name_eq zone.origin origin ≡ b
+            → cond (name_eq name other && name_eq zone.origin origin) (Some zone) (held_in servers other origin) ≡ Some held
+        by true e true f =
+            let here : None ≡ Some held =
+            sym none ∙ (λ i. held_in servers ((name_eq_decides name other).0 e i) ((name_eq_decides zone.origin origin).0 f i)) ∙ is in
+            absurd cc
+        by true e false f = (λ i. cond (e i && f i) (Some zone) (held_in servers other origin)) ∙ is
+        by false e b f = (λ i. cond (e i && name_eq zone.origin origin) (Some zone) (held_in servers other origin)) ∙ is
+
+    -- the new zone is found
+    pub held_new : held_in (with_zone name zone servers) name zone.origin ≡ Some zone
+    held_new =
+        held_more servers name zone.origin none
+        ∙ (λ i. cond ((name_eq_decides name name).1 refl i && (name_eq_decides zone.origin zone.origin).1 refl i) (Some zone) (held_in servers name zone.origin))
 
   -- a zone of a server is the one that was given, or one that a server of the name had before
   pub from_more : (servers : List Server) (server : Server) (other : Zone) → Contains (with_zone name zone servers) server → Contains server.zones other

@@ -21,5 +21,6 @@ pub mod Sources
 pub mod Fed
 pub mod ReadFiles
 pub mod Hosted
+pub mod Earlier
 pub mod RowZones
 pub mod FileName

@@ -11,12 +11,15 @@
 //! files, and each zone is that of one row (`rows_have_zones`). `shown_file` gives the name of a file as lines for people
 //! show it.
 //!
-//! Costs: each file is read once for each row or `$INCLUDE` that names it, in pieces of 4,096 octets, and a zone file
-//! without `$INCLUDE` is never held whole. No record is copied. A row's server is found, and a zone that its server
-//! had before, by its name in ordered sets, so that 10,000 rows of 10,000 servers take no longer than their number
-//! times a logarithm.
+//! Costs: a zone file is read once for all rows that name it with the same origin, with the files that it includes, in
+//! pieces of 4,096 octets, and one without `$INCLUDE` is never held whole. The first of these rows copies no record; each
+//! later one gets a copy of the zone. Only where less may still be read than was read for an earlier row, or the numbers of
+//! two rows' files are the same by chance, is a file read again. A row's server is found by its name in an ordered set, as
+//! are a zone that its server had before and an earlier row of the same file, so that 10,000 rows of 10,000 servers take no
+//! longer than their number times a logarithm.
 #![tactic(auto)]
 
+mod earlier;
 mod fault;
 mod file;
 mod file_name;

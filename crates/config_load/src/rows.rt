@@ -1,12 +1,14 @@
 //! Rows of the metadata.
 
-ghost use Rattle.std.specs.Prelude.{◌≤◌, length};
+ghost use Rattle.std.specs.Prelude.{◌≡◌, ◌≤◌, length, IfSome};
 ghost use Rattle.dns_data.specs.Answers.{AnswersOr};
 ghost use Rattle.net_model.specs.Configured.{KeepsWithin};
-ghost use Rattle.config_load.specs.Conf.{no_rows, with_row, with_rows};
+ghost use Rattle.config_load.specs.Conf.{no_rows, with_row, with_rows, zone_read};
+ghost use Rattle.config_load.specs.Reading.{Reads};
 ghost use Rattle.config_load.specs.RowRead.{row_read};
 ghost use Rattle.config_load.specs.Sources.{HasAnswered};
 
+use crate::earlier::EarlierRows;
 use crate::fault::LoadFault;
 use crate::limits::Limits;
 use crate::loaded::RowFiles;
@@ -44,14 +46,39 @@ pub(crate) fn read_rows<F: Files>(
         servers: Servers::new(alloc),
         rows: List::new(alloc),
     };
+    let mut earlier = EarlierRows::new(alloc);
     for (i, row) in all.iter().enumerate() {
-        rows = read_row(alloc, files, meta, i as u32 + 1, row, rows)?;
+        let again = earlier.zone_again(alloc, all, row, &rows)?;
+        let left = rows.left;
+        rows = read_row(alloc, files, meta, i as u32 + 1, row, rows, again)?;
+        earlier.put(i, row, left, &rows)?;
     }
     Ok(rows)
 }
 
-/// What the rows so far give with one row more, which has this number.
+/// What the rows so far give with one row more, which has this number. What reading its zone gives is known where an
+/// earlier row has the same file and origin.
 fn read_row<F: Files>(
+    alloc: Global,
+    files: &mut F,
+    meta: &str,
+    number: u32,
+    row: &MetaRow,
+    rows: ReadRows,
+    again: Option<ReadZone>,
+) -> Result<ReadRows, LoadFault>
+    requires reads { IfSome again (λ read. zone_read meta.now row.now rows.left (F.told files.old) ≡ Reads read) }
+    requires within { IfSome again (λ read. KeepsWithin read.zone) }
+    ensures { HasAnswered (F.told files.old) (F.told files.new) (F.faults files.old) (F.faults files.new) (with_row meta.now number row.now rows) result }
+{
+    match again {
+        Some(read) => with_read(alloc, number, &row.server, read, rows),
+        None => read_new_row(alloc, files, meta, number, row, rows),
+    }
+}
+
+/// What the rows so far give with one row more, which has this number and whose files are read.
+fn read_new_row<F: Files>(
     alloc: Global,
     files: &mut F,
     meta: &str,

@@ -1,11 +1,11 @@
 //! Servers and their zones.
 
-ghost use Rattle.std.specs.Prelude.{◌≡◌, ◌<◌, [], ◌∷◌, ◌++◌, IfOk, OnOk, length, vec_len};
+ghost use Rattle.std.specs.Prelude.{◌≡◌, ◌<◌, [], ◌∷◌, ◌++◌, Some, IfOk, IfSome, OnOk, length, vec_len};
 ghost use Rattle.std.specs.BTreeMap.{Updates};
 ghost use Rattle.dns_data.specs.Answers.{AnswersOr};
 ghost use Rattle.dns_data.specs.Name.{name_cmp};
 ghost use Rattle.net_model.specs.Configured.{AreConsistent, KeepsWithin};
-ghost use Rattle.config_load.specs.Hosted.{ArePlaces, with_zone_at};
+ghost use Rattle.config_load.specs.Hosted.{ArePlaces, held_in, with_zone_at, zones_of};
 ghost use Rattle.config_load.specs.Servers.{given, with_zone};
 
 use crate::fault::LoadFault;
@@ -56,6 +56,38 @@ impl Servers {
         ensures consistent { AreConsistent result }
     {
         List::from_vec(self.servers)
+    }
+
+    /// The zone at this place among those of the server of this name, where it has this origin.
+    pub(crate) fn zone(&self, name: &Name, origin: &Name, place: usize) -> Option<&Zone>
+        ensures held { IfSome result (λ zone. held_in self.now name.now origin.now ≡ Some zone.now) }
+        ensures within { IfSome result (λ zone. KeepsWithin zone.now) }
+    {
+        let zones = self.zones(name)?;
+        let zone = zones.get(place)?;
+        if zone.origin == *origin {
+            Some(zone)
+        } else {
+            None
+        }
+    }
+
+    /// The place of the last zone of the server of this name, or 0 where it has none.
+    pub(crate) fn last_zone(&self, name: &Name) -> usize {
+        match self.zones(name) {
+            Some(zones) => zones.len().saturating_sub(1),
+            None => 0,
+        }
+    }
+
+    /// The zones of the server of this name.
+    fn zones(&self, name: &Name) -> Option<&[Zone]>
+        ensures found { IfSome result (λ zones. zones_of self.now name.now ≡ Some zones.now) }
+        ensures consistent { AreConsistent self.now }
+    {
+        let place = self.places.get(name).copied()?;
+        let server = self.servers.as_slice().get(place)?;
+        Some(server.zones.items())
     }
 
     /// The servers with a zone more, which the row of this number gives to the server of this name. Its records lie at or

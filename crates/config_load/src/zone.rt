@@ -46,6 +46,26 @@ pub(crate) fn read_zone<F: Files>(
     Ok(ReadZone { zone, names, left })
 }
 
+/// An equal zone.
+pub(crate) fn copied_zone(alloc: Global, zone: &Zone) -> Result<Zone, NoMemory>
+    ensures { IfOk result (λ copy. copy ≡ zone.now) }
+{
+    let origin = zone.origin.copy(alloc)?;
+    let rrs = copied_records(alloc, zone.rrs.items())?;
+    Ok(Zone { origin, rrs })
+}
+
+/// Equal records, in their order.
+fn copied_records(alloc: Global, rrs: &[Rr]) -> Result<List<Rr>, NoMemory>
+    ensures { IfOk result (λ copies. copies ≡ rrs.now) }
+{
+    let mut copies = Vec::with_capacity(alloc, rrs.len())?;
+    for rr in rrs {
+        copies.push(rr.copy(alloc)?)?;
+    }
+    Ok(List::from_vec(copies))
+}
+
 /// The zone of the records of files with these names.
 fn checked(
     alloc: Global,

@@ -115,6 +115,17 @@ fn told(
     }
 }
 
+/// Equal names of files, in their order.
+pub(crate) fn copied_names(alloc: Global, names: &[Text]) -> Result<List<Text>, NoMemory>
+    ensures { IfOk result (λ copies. copies ≡ names.now) }
+{
+    let mut copies = List::new(alloc);
+    for name in names {
+        copies.push(name.copy(alloc)?)?;
+    }
+    Ok(copies)
+}
+
 /// The name of the file of this number.
 fn name_numbered(alloc: Global, names: List<Text>, number: u32) -> Text
     ensures { result ≡ name_numbered names number }
