@@ -1,0 +1,2 @@
+mod HeldSets
+mod LongestHeld

@@ -1,0 +1,10 @@
+mod Claimed
+mod ConsistentParts
+mod DirectRefusals
+mod Meets
+mod Passing
+mod Prefixes
+mod Refusals
+mod Rules
+mod ServerNames
+mod ShorterNames

@@ -1,0 +1,2 @@
+pub use Rattle.part_form.specs.PartText
+pub mod Writing
