@@ -34,12 +34,13 @@ use Rattle.zone_maker.specs.Source.{drill_told}
 use Rattle.run_endings.specs.declared.ending.Ending.{Ending}
 use Rattle.run_endings.proofs.AsAsked.{Says, SaysSo, as_asked as ended, over_none as unread, over_read, reading_says}
 use Rattle.run_endings.specs.Runs.{Ends}
-use Rattle.groot_run.specs.Counted.{EndsPast}
+use Rattle.report_run.specs.Counted.{EndsPast}
+use Rattle.report_run.specs.Budgets.{HasMoreNames, WithinBudgets, WithinNames, WithinStates, HasMoreNamesAt}
 use Rattle.groot_run.specs.JobEnds.{JobEnds, EndsOverConfig, EndsWithoutConfig}
 use Rattle.run_endings.specs.Endings.{OfReading, no_memory, with_output, writes_nothing}
 use Rattle.run_endings.specs.declared.status.Status.{Status}
 use Rattle.run_endings.specs.declared.status.Status.TheVariants.{Clean, Faults, WriteFault}
-use Rattle.groot_run.specs.Outcome.{status_of, HasMoreNames, WithinBudgets, WithinNames, WithinStates, IsReported, Checks, ListsClasses, IsAnswerWith, Asks, IsDrilled, Drills, drill_rewrites, TellsFindings, site_rewrites, answered_to, IsRechecked, Rechecks, GivesOf, Outcome, JobComesTo, JobOpensNoOther, NoJobReadFailed, Compares, ComparesWith, HasMoreNamesInBoth, IsCompared, compared_of, told_same, HasMoreNamesAt, IsScoped, ScopesSubject, scope_of, EndsBehind, Scopes, ScopesNames, ScopesOf, with_scope, own_sites, worse, usage}
+use Rattle.groot_run.specs.Outcome.{status_of, IsReported, Checks, ListsClasses, IsAnswerWith, Asks, IsDrilled, Drills, drill_rewrites, TellsFindings, site_rewrites, answered_to, IsRechecked, Rechecks, GivesOf, Outcome, JobComesTo, JobOpensNoOther, NoJobReadFailed, Compares, ComparesWith, HasMoreNamesInBoth, IsCompared, compared_of, sameness_written, IsScoped, ScopesSubject, scope_of, EndsBehind, Scopes, ScopesNames, ScopesOf, with_scope, own_sites, worse, usage}
 use Rattle.groot_run.specs.NameList.{names_of}
 use Rattle.groot_run.specs.Programs.{conf_of, limits_of}
 use Rattle.groot_run.specs.declared.name_list.ListFault.{ListFault}
@@ -113,7 +114,7 @@ module _ (program : Program) (told : FilesTold) (said : Result Job LineFault) (s
       within limit (HasMoreNamesInBoth two limit) (IsFirstPassedInOne two) (SomeClassPassesInOne two → ⊥) (IsCompared two ending) ending
       (λ is. by is.sameness is.as_line)
     where
-      by : (sameness : Sameness) → ending ≡ told_same sameness → SaysSo ending
+      by : (sameness : Sameness) → ending ≡ sameness_written sameness → SaysSo ending
       by (Same classes names) line = subst SaysSo (sym line) tt
       by (Apart query rtype) line = subst SaysSo (sym line) tt
 

@@ -9,9 +9,10 @@ use Rattle.run_endings.specs.Endings.{no_memory}
 use Rattle.run_endings.specs.Runs.{FilesOfRun, OutputOfRun}
 use Rattle.run_endings.specs.declared.status.Status.{Status}
 use Rattle.groot_run.specs.Runs.{RunsAsAsked}
-use Rattle.groot_run.specs.Outcome.{WithinStates, TellsFindings, site_rewrites}
+use Rattle.report_run.specs.Budgets.{WithinStates}
+use Rattle.groot_run.specs.Outcome.{TellsFindings, site_rewrites}
 
--- what is told of a configuration is told of each configuration that equals it
+-- what a run gives of a configuration it gives of each that equals it
 pub of_the_config : (config other : Config) (sites : List Site) (ending : Ending) → config ≡ other
     → WithinStates config site_rewrites (TellsFindings config sites ending) ending ⊎ (ending ≡ no_memory)
     → WithinStates other site_rewrites (TellsFindings other sites ending) ending ⊎ (ending ≡ no_memory)

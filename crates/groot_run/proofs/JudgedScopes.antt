@@ -15,16 +15,16 @@ use Rattle.run_endings.specs.declared.status.Status.{Status}
 use Rattle.run_endings.specs.Endings.{no_memory, with_output}
 use Rattle.groot_run.specs.Outcome.{IsScoped, status_of}
 use Rattle.groot_run.specs.ShownClasses.{AreShown, EndsAmongClasses}
-use Rattle.groot_run.proofs.Watched.{told_of_sites}
+use Rattle.groot_run.proofs.Watched.{findings_of_sites}
 use Rattle.groot_run.proofs.SiteViews.{all_views, is_first_passed}
 
 -- the ending with the report of the scope of a name, and what checks tell
-abbrev pub with_told : Report → Labels → List SiteFindings → Ending
-with_told report name told = with_output (status_of report.entries) (scope_text report name told)
+abbrev pub scope_with : Report → Labels → List SiteFindings → Ending
+scope_with report name told = with_output (status_of report.entries) (scope_text report name told)
 
 -- a text that is written with the report's status is that
 pub as_written : (report : Report) (name asked : Labels) (told : List SiteFindings) (exit : Status) (text : List ℕ) → exit ≡ status_of report.entries → asked ≡ name
-    → text ≡ scope_text report asked told → with_output exit text ≡ with_told report name told
+    → text ≡ scope_text report asked told → with_output exit text ≡ scope_with report name told
 as_written report name asked told exit text status_is same is =
     ap (with_output exit) is ∙ ap (λ (s : Status). with_output s (scope_text report asked told)) status_is
     ∙ ap (λ (n : Labels). with_output (status_of report.entries) (scope_text report n told)) same
@@ -50,7 +50,7 @@ module _ (subject : Subject) (states : ℕ) (states_are : most_states ≡ states
     -- the ending with the report and what the checks then hold is that of the scope
     pub is_scoped : AreShown queries (classes_of_rows rows) before after
         → (report : Report) → IsReport subject report → (ending : Ending)
-        → ending ≡ with_told report subject.below (map (told_by []) after) → IsScoped subject before ending
+        → ending ≡ scope_with report subject.below (map (told_by []) after) → IsScoped subject before ending
     is_scoped shown report is ending written =
         let seen = (of_scoped (λ (q : LimitedQueries). AreShown q (classes_of_rows rows) before after) shown).shown none.no_server in
         record {
@@ -58,5 +58,5 @@ module _ (subject : Subject) (states : ℕ) (states_are : most_states ≡ states
           views = seen.views;
           is_report = is;
           are_views = all_views subject most_states (classes_of_rows rows) are seen.views seen.are_views;
-          as_text = written ∙ ap (with_told report subject.below) (told_of_sites seen.views before after seen.seen);
+          as_text = written ∙ ap (scope_with report subject.below) (findings_of_sites seen.views before after seen.seen);
         }

@@ -1,4 +1,3 @@
-pub mod Budgets
 pub mod ClassLaws
 pub mod ClassLists
 pub mod ComparedTrees
@@ -6,7 +5,6 @@ pub mod Endings
 pub mod JudgedScopes
 pub mod HandedChecks
 pub mod HeldViews
-pub mod JudgedTrees
 mod KeptPieces
 mod NameLists
 pub mod OneClassList
@@ -14,7 +12,6 @@ pub mod OneEntry
 pub mod OneOutcome
 pub mod OneReport
 mod PrintedLines
-pub mod PassedNames
 pub mod Places
 pub mod Rechecked
 pub mod SameWords

@@ -24,10 +24,11 @@ use Rattle.run_endings.proofs.OneReading.{one_by_reading}
 use Rattle.run_endings.specs.declared.ending.Ending.{Ending}
 use Rattle.run_endings.specs.Endings.{too_many_to_learn, with_output, writes_nothing}
 use Rattle.run_endings.specs.declared.status.Status.TheVariants.{Clean}
+use Rattle.report_run.specs.Budgets.{HasMoreNames, WithinNames, WithinStates, HasMoreNamesAt}
 use Rattle.groot_run.specs.NameList.{names_of}
 use Rattle.groot_run.specs.declared.name_list.ListFault.{ListFault}
 use Rattle.groot_run.specs.declared.name_list.ListFault.TheVariants as list_faults
-use Rattle.groot_run.specs.Outcome.{reported, listed, HasMoreNames, WithinNames, WithinStates, IsReported, Checks, IsClassList, ListsClasses, ask_rewrites, IsAnswerWith, Asks, walks_written, GivesOf, Outcome, Drills, IsDrilled, drilled, drill_rewrites, answered_to, IsRechecked, Rechecks, TellsFindings, ShowsClasses, told_of_views, site_rewrites, Compares, ComparesWith, HasMoreNamesInBoth, IsCompared, compared_of, told_same, HasMoreNamesAt, IsScoped, ScopesSubject, scope_of, scope_written, EndsBehind, Scopes, ScopesNames, ScopesOf, with_scope, own_sites}
+use Rattle.groot_run.specs.Outcome.{reported, listed, IsReported, Checks, IsClassList, ListsClasses, ask_rewrites, IsAnswerWith, Asks, walks_written, GivesOf, Outcome, Drills, IsDrilled, drilled, drill_rewrites, answered_to, IsRechecked, Rechecks, TellsFindings, ShowsClasses, findings_written, site_rewrites, Compares, ComparesWith, HasMoreNamesInBoth, IsCompared, compared_of, sameness_written, IsScoped, ScopesSubject, scope_of, scope_written, EndsBehind, Scopes, ScopesNames, ScopesOf, with_scope, own_sites}
 use Rattle.groot_run.specs.Programs.{conf_of, limits_of}
 use Rattle.report_check.proofs.OneAnswer.{only_answer}
 use Rattle.same_answers.specs.Compared.{Compared}
@@ -36,7 +37,7 @@ use Rattle.same_answers.proofs.OneSameness.{one_sameness, one_passed as one_pass
 use Rattle.graph_form.specs.Report.{Subject}
 use Rattle.graph_form.specs.declared.report.Report.{Report}
 use Rattle.job_scope.proofs.OneRefusal.{one_refusal, none_refused}
-use Rattle.groot_run.proofs.Budgets.{one_within as one_within_budgets}
+use Rattle.report_run.proofs.Budgets.{one_within as one_within_budgets}
 use Rattle.groot_run.proofs.OneReport.{one_report}
 use Rattle.query_verdicts.specs.Passed.{IsFirstPassed, IsRefusedFor, NonePasses, SomeClassPasses}
 use Rattle.query_verdicts.proofs.OnePassed.{one_passed}
@@ -72,17 +73,17 @@ one_drill limit zones config a b =
     one_within_states config limit drill_rewrites (IsDrilled zones config a) (IsDrilled zones config b) a b
     (λ p q. p.as_line ∙ ap (drilled zones config) (one_report (whole_config config drill_rewrites) p.report q.report p.is_report q.is_report) ∙ sym q.as_line)
 
-one_told : (limit : ℕ) (sites : List Site) (config : Config) (a b : Ending) → ShowsClasses limit sites config a → ShowsClasses limit sites config b → a ≡ b
-one_told limit sites config a b =
+one_shown : (limit : ℕ) (sites : List Site) (config : Config) (a b : Ending) → ShowsClasses limit sites config a → ShowsClasses limit sites config b → a ≡ b
+one_shown limit sites config a b =
     one_within_states config limit site_rewrites (TellsFindings config sites a) (TellsFindings config sites b) a b
-    (λ p q. p.as_text ∙ ap (told_of_views sites) (one_list_of_views (whole_config config site_rewrites) p.views q.views p.are_views q.are_views) ∙ sym q.as_text)
+    (λ p q. p.as_text ∙ ap (findings_written sites) (one_list_of_views (whole_config config site_rewrites) p.views q.views p.are_views q.are_views) ∙ sym q.as_text)
 
 -- two configurations that are compared give one thing
 one_comparison : (limit : ℕ) (two : Compared) (a b : Ending) → Compares limit two a → Compares limit two b → a ≡ b
 one_comparison limit two a b =
     one_within_budgets limit (HasMoreNamesInBoth two limit) (IsFirstPassedInOne two) (SomeClassPassesInOne two → ⊥)
     (one_passed_in_one two) (λ none query first. none (first.class, query, first.passes)) (IsCompared two a) (IsCompared two b) a b
-    (λ p q. p.as_line ∙ ap told_same (one_sameness two p.sameness q.sameness p.is_sameness q.is_sameness) ∙ sym q.as_line)
+    (λ p q. p.as_line ∙ ap sameness_written (one_sameness two p.sameness q.sameness p.is_sameness q.is_sameness) ∙ sym q.as_line)
 
 -- and so does a subject with its scope
 one_scope : (limit : ℕ) (subject : Subject) (sites : List Site) (a b : Ending) → ScopesSubject limit subject sites a → ScopesSubject limit subject sites b → a ≡ b
@@ -166,7 +167,7 @@ one_of_task : (program : Program) (task : Task) (sites : List Site) (config : Co
 one_of_task program (tasks.Check workers classes rewrites) sites = one_check classes rewrites
 one_of_task program (tasks.Ask name rtype) sites = one_asked name rtype
 one_of_task program (tasks.Classes classes) sites = one_list classes
-one_of_task program tasks.Site sites = one_told (usual_names program) sites
+one_of_task program tasks.Site sites = one_shown (usual_names program) sites
 one_of_task program (tasks.Scope name) sites = λ config. one_scope (usual_names program) (scope_of config name) sites
 
 -- two outcomes of a job, by the same that is told of the files, are equal

@@ -3,7 +3,8 @@ use Rattle.std.proofs.Common.{◌≡◌, [], ◌∷◌, codes, refl}
 use Rattle.std.specs.Fmt.{digits}
 use Rattle.plain_resolver.specs.Passed.{most_walks_followed}
 use Rattle.run_endings.specs.Endings.{too_many_names, too_many_to_learn}
-use Rattle.groot_run.specs.Outcome.{too_many_states, too_many_walks}
+use Rattle.report_run.specs.Budgets.{too_many_states}
+use Rattle.groot_run.specs.Outcome.{too_many_walks}
 
 names : (too_many_names 1000000).err ≡ codes "classes: more than 1000000\n"
 unfolding digits

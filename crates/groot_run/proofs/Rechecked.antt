@@ -28,10 +28,15 @@ by_answer file config octets result answer ending is answered checked (inl line)
     inl (record { answer = answer; is_checked = subst (IsChecked config octets) is checked; is_answered = answered; as_line = line })
 by_answer file config octets result answer ending is answered checked (inr ran_out) = inr ran_out
 
+-- how a run ends over a file within these limits
+abbrev pub EndsWithin : FilesTold → (List ℕ → ℕ) → (List ℕ → ℕ) → List ℕ → (List ℕ → Ending → Type 0) → Ending → Limits → Type 0
+EndsWithin told before after file of_octets ending limits =
+    EndsOrFails (OfReading file of_octets (file_octets limits file told) ending) (ComesToFile (file_octets limits file) told) before after ending
+
 -- the file is read, and the run ends by its octets
 pub over_file : (limits : Limits) (told : FilesTold) (before after : List ℕ → ℕ) (name octets : List ℕ) (of_octets : List ℕ → Ending → Type 0) (ending : Ending)
     → file_octets limits name told ≡ Reads octets → of_octets octets ending ⊎ (ending ≡ no_memory)
-    → EndsOrFails (OfReading name of_octets (file_octets limits name told) ending) (ComesToFile (file_octets limits name) told) before after ending
+    → EndsWithin told before after name of_octets ending limits
 over_file limits told before after name octets of_octets ending reads (inl ends) =
     inl (subst (λ (read : Reading (List ℕ)). OfReading name of_octets read ending) (sym reads) ends)
 over_file limits told before after name octets of_octets ending reads (inr ran_out) = inr (inr ran_out)
@@ -40,7 +45,7 @@ over_file limits told before after name octets of_octets ending reads (inr ran_o
 pub over_no_file : (limits : Limits) (told : FilesTold) (before after : List ℕ → ℕ) (name : List ℕ) (of_octets : List ℕ → Ending → Type 0) (fault : LoadFault) (ending : Ending)
     → Gives {T = List ℕ} (file_octets limits name told) (Err fault) → FailedWhereItCame {T = List ℕ} (file_octets limits name) told (Err fault) → FailedAt {T = List ℕ} before after (Err fault)
     → IsNotLoaded name fault ending ⊎ (ending ≡ no_memory)
-    → EndsOrFails (OfReading name of_octets (file_octets limits name told) ending) (ComesToFile (file_octets limits name) told) before after ending
+    → EndsWithin told before after name of_octets ending limits
 over_no_file limits told before after name of_octets fault ending gives came failed (inr ran_out) = inr (inr ran_out)
 over_no_file limits told before after name of_octets (load_faults.Read file) ending gives came failed (inl is) = inr (inl (file, is, came, failed))
 over_no_file limits told before after name of_octets load_faults.NoMemory ending gives came failed (inl is) = inr (inr is)

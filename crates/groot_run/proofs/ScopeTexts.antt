@@ -1,4 +1,4 @@
--- What is told of scopes, and how a run ends with it.
+-- The texts of scopes, and how a run ends with them.
 use Rattle.std.proofs.Common.{◌≡◌, ◌∙◌, ℕ, suc, ◌+◌, ◌<◌, ◌≤◌, Bool, true, false, List, ◌∷◌, ◌++◌, length, drop, get_or, Result, Ok, Err, sym, subst, refl, ap, ap₂, inl, inr, arith}
 use Rattle.std.specs.Prelude.{◌⊎◌, ◌||◌}
 use Rattle.std.specs.List.{flat_map}
@@ -14,23 +14,24 @@ use Rattle.query_verdicts.specs.Queries.{LimitedQueries, most_states}
 use Rattle.site_checks.specs.Views.{Site}
 use Rattle.run_endings.specs.declared.ending.Ending.{Ending}
 use Rattle.run_endings.specs.Endings.{no_memory, with_output, writes_nothing}
+use Rattle.report_run.specs.Budgets.{HasMoreNamesAt, WithinSubject}
 use Rattle.groot_run.specs.declared.name_list.ListFault.{ListFault}
 use Rattle.groot_run.specs.declared.name_list.ListFault.TheVariants.{NotName, NoMemory}
 use Rattle.groot_run.specs.declared.scope.ScopeText.{ScopeText}
-use Rattle.groot_run.specs.Outcome.{EndsBehind, HasMoreNamesAt, IsScoped, Scopes, ScopesEach, ScopesNames, ScopesSubject, WithinSubject, bad_name, own_sites, scope_of, with_scope, worse}
-use Rattle.groot_run.specs.ScopeTexts.{EndsAsTold, TellsScope, TellsScopes, TellsText, status_when, with_text}
-use Rattle.groot_run.proofs.Budgets.{beyond}
+use Rattle.groot_run.specs.Outcome.{EndsBehind, IsScoped, Scopes, ScopesEach, ScopesNames, ScopesSubject, bad_name, own_sites, scope_of, with_scope, worse}
+use Rattle.groot_run.specs.ScopeTexts.{EndsByText, TellsScope, TellsScopes, TellsText, status_when, with_text}
+use Rattle.report_run.proofs.Budgets.{beyond}
 
 -- ---- of one name
 
 module _ (limit : ℕ) (subject : Subject) (sites : List Site) where
-  -- what is told within the budgets is told of the scope
+  -- a text within the budgets is one of the scope
   pub within_budgets : (HasMoreNamesAt subject limit → ⊥) → NonePasses subject most_states → (told : Result ScopeText Ending) → TellsText subject sites told → TellsScope limit subject sites told
   within_budgets few none (Ok text) is = (few, none, is)
   within_budgets few none (Err ending) ran_out = inr ran_out
 
-  -- a run that ends with what is told of a scope ends as the scope does, unless memory ran out
-  pub scope_ends : (told : Result ScopeText Ending) (ending : Ending) → EndsAsTold told ending → TellsScope limit subject sites told
+  -- a run that ends with the text of a scope ends as the scope does, unless memory ran out
+  pub scope_ends : (told : Result ScopeText Ending) (ending : Ending) → EndsByText told ending → TellsScope limit subject sites told
       → ScopesSubject limit subject sites ending ⊎ (ending ≡ no_memory)
   scope_ends (Ok text) ending (inl is) (few, none, scoped) = inl (inr (few, inr (none, subst (IsScoped subject sites) (sym is) scoped)))
   scope_ends (Ok text) ending (inr ran_out) tells = inr ran_out
@@ -95,9 +96,9 @@ module _ (limit : ℕ) (config : Config) where
         goes ending (with_text text, inr (few, inr (none, scoped)), inr (written text, rest))
 
 -- behind the last name all end with what is written
-pub all_told : (limit : ℕ) (config : Config) (names : List Labels) (i : ℕ) (text : ScopeText) → length names ≤ i
+pub all_scopes : (limit : ℕ) (config : Config) (names : List Labels) (i : ℕ) (text : ScopeText) → length names ≤ i
     → GoesOnWith limit config names (with_text text) (drop i names) → TellsScopes limit config names (Ok text)
-all_told limit config names i text past goes =
+all_scopes limit config names i text past goes =
     subst (GoesOnWith limit config names (with_text text)) (drop_all i names past) goes (with_text text) refl
 
 -- the names that are left begin with the next one
@@ -131,7 +132,7 @@ module _ (limit : ℕ) (of now : LimitedQueries) (same : now ≡ of) (names : Li
       (subst (λ (e : Ending). EndsBehind (λ (one : Labels). Scopes limit one own_sites of.config) e (drop (i + 1) names) ending) (both_written text more both faulty pieces) rest)
 
 -- the run ends with what is told of names, unless memory ran out
-pub scopes_end : (limit : ℕ) (config : Config) (names : List Labels) (told : Result ScopeText Ending) (ending : Ending) → EndsAsTold told ending → TellsScopes limit config names told
+pub scopes_end : (limit : ℕ) (config : Config) (names : List Labels) (told : Result ScopeText Ending) (ending : Ending) → EndsByText told ending → TellsScopes limit config names told
     → ScopesEach limit config names ending ⊎ (ending ≡ no_memory)
 scopes_end limit config names (Ok text) ending (inl is) ends = inl (subst (ScopesEach limit config names) (sym is) ends)
 scopes_end limit config names (Ok text) ending (inr ran_out) ends = inr ran_out

@@ -21,7 +21,7 @@ use Rattle.site_checks.specs.declared.views.View.{View}
 use Rattle.site_checks.proofs.Seen.{nothing_seen, more_seen}
 use Rattle.run_endings.specs.declared.ending.Ending.{Ending}
 use Rattle.run_endings.specs.Endings.{no_memory}
-use Rattle.groot_run.specs.Outcome.{too_many_states}
+use Rattle.report_run.specs.Budgets.{too_many_states}
 use Rattle.groot_run.specs.ShownClasses.{NoListedPasses, class_of, HasEnds, AreViewsOfClasses, SawViews, AreShown, EndsAmongClasses}
 
 -- ---- the classes of rows

@@ -29,8 +29,9 @@ use Rattle.site_checks.proofs.OneViews.{one_view}
 use Rattle.run_endings.specs.declared.ending.Ending.{Ending}
 use Rattle.run_endings.specs.declared.status.Status.TheVariants.{Clean}
 use Rattle.run_endings.specs.Endings.{with_output, no_memory}
-use Rattle.groot_run.specs.Outcome.{WithinStates, TellsFindings, site_rewrites}
-use Rattle.groot_run.proofs.Watched.{told_of_sites}
+use Rattle.report_run.specs.Budgets.{WithinStates}
+use Rattle.groot_run.specs.Outcome.{TellsFindings, site_rewrites}
+use Rattle.groot_run.proofs.Watched.{findings_of_sites}
 use Rattle.groot_run.specs.ShownClasses.{NoListedPasses, class_of, AreViewsOfClasses, AreShown, IsFirstOf, EndsAmongClasses}
 
 module _ (subject : Subject) (states : ℕ) (classes : List ListedClass) (are : AreListed subject.ground subject.below classes) where
@@ -134,7 +135,7 @@ module _ (queries : LimitedQueries) (same : queries ≡ limited_to queries.confi
       → WithinStates queries.config site_rewrites (TellsFindings queries.config olds ending) ending
   told olds news shown clear ending is =
       let seen = shown.shown clear in
-      let tells = told_of_sites seen.views olds news seen.seen in
+      let tells = findings_of_sites seen.views olds news seen.seen in
       inr (
         none shown.none_passes,
         record {

@@ -10,8 +10,8 @@ use Rattle.site_checks.proofs.Seen.{tell_all, told_after}
 use Rattle.groot_run.specs.ShownClasses.{SawViews, sites_of}
 
 -- checks that were shown views tell what they meant before
-pub told_of_sites : (views : List View) (olds news : List Site) → SawViews views olds news → map (told_by []) news ≡ map (told_by views) olds
-told_of_sites views olds news seen =
+pub findings_of_sites : (views : List View) (olds news : List Site) → SawViews views olds news → map (told_by []) news ≡ map (told_by views) olds
+findings_of_sites views olds news seen =
     told_after (λ (site : Site). site.name) (λ (site : Site). site.held) (λ (site : Site). site.step) views olds news seen ∙ ap (map (told_by views)) (map-id olds)
 
 module _ {B : Type 0} (name : B → List ℕ) (held : B → List (List ℕ)) (step : B → List (List ℕ) → View → List (List ℕ)) where
@@ -33,9 +33,9 @@ module _ {B : Type 0} (name : B → List ℕ) (held : B → List (List ℕ)) (st
   saw_all views (a ∷ own) (b ∷ owns) olds news first seen = (first.0, saw_all views own owns olds news first.1 seen)
 
   -- what checks tell that are brought, and others before them
-  pub told_of_all : (own : List Site) (brought asked : List B) → asked ≡ brought → (first told all : List SiteFindings) → all ≡ first ++ told → first ≡ map (told_by []) own
+  pub findings_of_all : (own : List Site) (brought asked : List B) → asked ≡ brought → (first told all : List SiteFindings) → all ≡ first ++ told → first ≡ map (told_by []) own
       → AllZip (Tells name held) asked told → all ≡ map (told_by []) (sites_of name held step own brought)
-  told_of_all own brought asked same first told all is first_is tells =
+  findings_of_all own brought asked same first told all is first_is tells =
       is ∙ ap₂ (λ (xs ys : List SiteFindings). xs ++ ys) first_is (tell_all name held step asked told tells ∙ by asked ∙ ap (λ (bs : List B). map (told_by []) (sites_of name held step [] bs)) same)
       ∙ sym (map-append (told_by []) own (sites_of name held step [] brought))
     where

@@ -8,6 +8,7 @@ pub use Rattle.config_load.specs.Reading
 pub use Rattle.run_endings.specs.Endings
 pub use Rattle.run_endings.specs.Runs as ProgramRuns
 pub use Rattle.run_endings.specs.Writing
+pub use Rattle.report_run.specs.Budgets
 pub use Rattle.groot_line.specs.Job
 pub use Rattle.groot_line.specs.Program
 pub use Rattle.site_checks.specs.Views
@@ -19,9 +20,7 @@ pub mod Laws
 pub mod Programs
 pub mod Outcome
 pub mod Runs
-pub mod Judged
 pub mod ClassRows
-pub mod Counted
 pub mod JobEnds
 pub mod ShownClasses
 pub mod HeldView

@@ -13,7 +13,6 @@ use Rattle.net_model.specs.Step.{following}
 use Rattle.net_model.specs.Walk.{AreWalks}
 use Rattle.net_model.specs.Reading.{ground_of}
 use Rattle.query_verdicts.specs.Carried.{whole_config}
-use Rattle.query_verdicts.specs.Passed.{SomeClassPasses, IsFirstPassed, IsRefusedFor, NonePasses}
 use Rattle.query_verdicts.specs.Queries.{most_states}
 use Rattle.config_load.specs.Load.{ComesToFile}
 use Rattle.config_load.specs.Reading.{both, file_octets}
@@ -40,7 +39,7 @@ use Rattle.groot_line.specs.declared.job.Task.TheVariants as tasks
 use Rattle.groot_line.specs.declared.program.Program.{Program}
 use Rattle.run_endings.specs.declared.ending.Ending.{Ending}
 use Rattle.run_endings.specs.declared.status.Status.{Status}
-use Rattle.run_endings.specs.Endings.{OfReading, with_output, without_output, no_memory, too_many_names, too_many_states as too_many_states_than, too_many_to_learn, writes_nothing}
+use Rattle.run_endings.specs.Endings.{OfReading, with_output, without_output, no_memory, too_many_to_learn, writes_nothing}
 use Rattle.run_endings.specs.declared.status.Status.TheVariants.{Clean, Faults, Usage, Refused, Walks}
 use Rattle.job_scope.specs.Scoped.{scoped}
 use Rattle.same_answers.specs.Compared.{Compared, joint}
@@ -48,7 +47,7 @@ use Rattle.same_answers.specs.Passed.{IsFirstPassedInOne, SomeClassPassesInOne}
 use Rattle.same_answers.specs.Sameness.{IsSameness}
 use Rattle.same_answers.specs.declared.sameness.Sameness.{Sameness}
 use Rattle.same_answers.specs.declared.sameness.Sameness.TheVariants.{Same, Apart}
-use Rattle.net_model.specs.Tree.{HasMoreThan, IsInPart}
+use Rattle.net_model.specs.Tree.{HasMoreThan}
 use Rattle.query_classes.specs.Children.{IsInTree}
 use Rattle.zone_maker.specs.Source.{drill_told}
 use Rattle.report_json.specs.Sites.{sites_text, scope_text}
@@ -56,6 +55,7 @@ use Rattle.site_checks.specs.AOnly.{a_only}
 use Rattle.site_checks.specs.Answering.{answering}
 use Rattle.site_checks.specs.Views.{AreViews, Site, told_by}
 use Rattle.site_checks.specs.declared.views.View.{View}
+use Rattle.report_run.specs.Budgets.{WithinBudgets, WithinNames, WithinStates, WithinSubject}
 use Rattle.groot_run.specs.DrillLine.{drill_line, record_count}
 use Rattle.groot_run.specs.NameList.{names_of}
 use Rattle.groot_run.specs.declared.name_list.ListFault.{ListFault}
@@ -74,10 +74,6 @@ status_of (entry ∷ entries) = Faults
 -- the words are no job of the program
 abbrev pub usage : Program → Ending
 usage program = without_output Usage (usage_line program)
-
--- the ending if the query reaches more pairs of state and type than are looked at
-abbrev pub too_many_states : Labels → Ending
-too_many_states query = too_many_states_than most_states query
 
 -- the ending with this report: its text for standard output, and a status that says whether it has a fault
 abbrev pub reported : Report → Ending
@@ -99,38 +95,15 @@ most_walks_written = 1000
 abbrev pub too_many_walks : Ending
 too_many_walks = without_output Walks (codes "walks: more than " ++ (decimal most_walks_written ++ codes "\n"))
 
--- what checks tell that were shown these views
-abbrev pub told_of_views : List Site → List View → Ending
-told_of_views sites views = with_output Clean (sites_text (map (told_by views) sites))
+-- the findings of checks that were shown these views
+abbrev pub findings_written : List Site → List View → Ending
+findings_written sites views = with_output Clean (sites_text (map (told_by views) sites))
 
--- the report of the scope of a name, with what checks tell that were shown these views
+-- the report of the scope of a name, with the findings of checks that were shown these views
 abbrev pub scope_written : Report → Labels → List Site → List View → Ending
 scope_written report name sites views = with_output (status_of report.entries) (scope_text report name (map (told_by views) sites))
 
 -- ---- the outcome of a job
-
--- What is given where names are judged: where there are no more names than the limit, and no query is refused since it
--- reaches more pairs of state and type than it may, the run ends so.
-abbrev pub WithinBudgets : ℕ → Type 0 → (Labels → Type 0) → Type 0 → Type 0 → Ending → Type 0
-WithinBudgets limit HasMore IsRefused NoneIs EndsSo ending =
-    (HasMore × (ending ≡ too_many_names limit))
-    ⊎ ((HasMore → ⊥) × (((query : Labels) × IsRefused query × (ending ≡ too_many_states query)) ⊎ (NoneIs × EndsSo)))
-
--- the class tree of the configuration has more names than the limit
-abbrev pub HasMoreNames : Config → ℕ → Type 0
-HasMoreNames config limit = HasMoreThan (IsInTree (ground_of config)) limit
-
--- what a command gives for which the class tree may have so many names: where it has no more, the run ends so
-abbrev pub WithinNames : Config → ℕ → Type 0 → Ending → Type 0
-WithinNames config limit EndsSo ending =
-    (HasMoreNames config limit × (ending ≡ too_many_names limit)) ⊎ ((HasMoreNames config limit → ⊥) × EndsSo)
-
--- What a command gives that judges the classes: where no representative reaches more pairs of state and type than it
--- may, the run ends so. Of those that do the first in class order is named.
-abbrev pub WithinStates : Config → ℕ → Type 0 → Ending → Type 0
-WithinStates config rewrites EndsSo ending =
-    ((query : Labels) × IsFirstPassed (whole_config config rewrites) most_states query × (ending ≡ too_many_states query))
-    ⊎ ((SomeClassPasses (whole_config config rewrites) most_states → ⊥) × EndsSo)
 
 -- the run ends with the report of the configuration
 pub record IsReported (config : Config) (rewrites : ℕ) (ending : Ending) : Type 0 where
@@ -213,7 +186,7 @@ site_rewrites = usual_rewrites
 pub record TellsFindings (config : Config) (sites : List Site) (ending : Ending) : Type 0 where
   pub views : List View
   pub are_views : AreViews (whole_config config site_rewrites) views
-  pub as_text : ending ≡ told_of_views sites views
+  pub as_text : ending ≡ findings_written sites views
 
 -- what `site` gives of a configuration: what the checks tell, unless the class tree has more names than the limit, or a
 -- representative reaches too many pairs of state and type
@@ -277,10 +250,10 @@ all_same classes names = with_output Clean (codes "same: classes " ++ decimal cl
 abbrev pub one_differs : Labels → RrType → Ending
 one_differs query rtype = with_output Faults (codes "differ: " ++ name_text query ++ codes " " ++ word_of rtype ++ codes "\n")
 
--- how a run ends by what is told of two configurations
-abbrev pub told_same : Sameness → Ending
-told_same (Same classes names) = all_same classes names
-told_same (Apart query rtype) = one_differs query rtype
+-- how a run ends by the answer for two configurations
+abbrev pub sameness_written : Sameness → Ending
+sameness_written (Same classes names) = all_same classes names
+sameness_written (Apart query rtype) = one_differs query rtype
 
 -- the class tree of both has more names than the limit
 abbrev pub HasMoreNamesInBoth : Compared → ℕ → Type 0
@@ -292,12 +265,12 @@ HasMoreNamesInBoth two limit = HasMoreThan (IsInTree (joint two)) limit
 abbrev pub WithinBoth : Compared → ℕ → Type 0 → Ending → Type 0
 WithinBoth two limit = WithinBudgets limit (HasMoreNamesInBoth two limit) (IsFirstPassedInOne two) (SomeClassPassesInOne two → ⊥)
 
--- the run ends with what is told of the two: that each query of at most 255 octets that both bound has the same
+-- the run ends with the answer for the two: that each query of at most 255 octets that both bound has the same
 -- outcomes in both with each type, or the first one that hasn't
 pub record IsCompared (two : Compared) (ending : Ending) : Type 0 where
   pub sameness : Sameness
   pub is_sameness : IsSameness two sameness
-  pub as_line : ending ≡ told_same sameness
+  pub as_line : ending ≡ sameness_written sameness
 
 -- what `same` gives of two configurations: what is told of them, unless too many names are there, or a query reaches
 -- too many pairs of state and type
@@ -318,16 +291,6 @@ scope_rewrites = usual_rewrites
 -- the scope of a name in a configuration: the subject of its report
 abbrev pub scope_of : Config → Labels → Subject
 scope_of config name = scoped config scope_rewrites name
-
--- the class tree of a subject has more names at or below its name than the limit
-abbrev pub HasMoreNamesAt : Subject → ℕ → Type 0
-HasMoreNamesAt subject limit = HasMoreThan (IsInPart subject.ground subject.below) limit
-
--- What is given of a subject: where its class tree has no more names at or below its name than the limit, and neither a
--- representative there nor the name of a server reaches more pairs of state and type than it may, the run ends so. Of those
--- that do the first representative in class order is named, or else the first server.
-abbrev pub WithinSubject : Subject → ℕ → Type 0 → Ending → Type 0
-WithinSubject subject limit = WithinBudgets limit (HasMoreNamesAt subject limit) (IsRefusedFor subject most_states) (NonePasses subject most_states)
 
 -- the run ends with the report of a subject, and with what the checks tell that were shown the views of all its classes
 pub record IsScoped (subject : Subject) (sites : List Site) (ending : Ending) : Type 0 where

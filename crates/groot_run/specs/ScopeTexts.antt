@@ -11,8 +11,9 @@ use Rattle.run_endings.specs.declared.ending.Ending.{Ending}
 use Rattle.run_endings.specs.declared.status.Status.{Status}
 use Rattle.run_endings.specs.declared.status.Status.TheVariants.{Clean, Faults}
 use Rattle.run_endings.specs.Endings.{no_memory, with_output}
+use Rattle.report_run.specs.Budgets.{HasMoreNamesAt, WithinSubject}
 use Rattle.groot_run.specs.declared.scope.ScopeText.{ScopeText}
-use Rattle.groot_run.specs.Outcome.{HasMoreNamesAt, IsScoped, ScopesEach, WithinSubject}
+use Rattle.groot_run.specs.Outcome.{IsScoped, ScopesEach}
 
 -- the status of reports that are written, by whether one has a fault
 abbrev pub status_when : Bool → Status
@@ -22,23 +23,23 @@ status_when faulty = if faulty then Faults else Clean
 abbrev pub with_text : ScopeText → Ending
 with_text text = with_output (status_when text.faulty) (flat_map (λ piece. piece) text.pieces)
 
--- how a run ends by what is told
-abbrev pub EndsAsTold : Result ScopeText Ending → Ending → Type 0
-EndsAsTold (Ok text) ending = (ending ≡ with_text text) ⊎ (ending ≡ no_memory)
-EndsAsTold (Err said) ending = ending ≡ said
+-- how a run ends by a text
+abbrev pub EndsByText : Result ScopeText Ending → Ending → Type 0
+EndsByText (Ok text) ending = (ending ≡ with_text text) ⊎ (ending ≡ no_memory)
+EndsByText (Err said) ending = ending ≡ said
 
--- what is told of a scope within its budgets: its text, unless memory ran out
+-- the text of a scope within its budgets, unless memory ran out
 abbrev pub TellsText : Subject → List Site → Result ScopeText Ending → Type 0
 TellsText subject sites (Ok text) = IsScoped subject sites (with_text text)
 TellsText subject sites (Err ending) = ending ≡ no_memory
 
--- what is told of a scope: its text; or how a run ends without one, since it passes a budget, or memory ran out
+-- the text of a scope; or how a run ends without one, since it passes a budget, or memory ran out
 abbrev pub TellsScope : ℕ → Subject → List Site → Result ScopeText Ending → Type 0
 TellsScope limit subject sites (Ok text) =
     (HasMoreNamesAt subject limit → ⊥) × NonePasses subject most_states × IsScoped subject sites (with_text text)
 TellsScope limit subject sites (Err ending) = WithinSubject subject limit ⊥ ending ⊎ (ending ≡ no_memory)
 
--- what is told of the scopes of names: their text, or how a run ends without one
+-- the text of the scopes of names, or how a run ends without one
 abbrev pub TellsScopes : ℕ → Config → List Labels → Result ScopeText Ending → Type 0
 TellsScopes limit config names (Ok text) = ScopesEach limit config names (with_text text)
 TellsScopes limit config names (Err ending) = ScopesEach limit config names ending ⊎ (ending ≡ no_memory)

@@ -12,7 +12,7 @@ use Rattle.site_checks.specs.Views.{Site}
 use Rattle.site_checks.specs.declared.views.View.{View}
 use Rattle.run_endings.specs.declared.ending.Ending.{Ending}
 use Rattle.run_endings.specs.Endings.{no_memory}
-use Rattle.groot_run.specs.Outcome.{too_many_states}
+use Rattle.report_run.specs.Budgets.{too_many_states}
 
 -- the representative of none of these classes reaches more pairs of state and type than it may
 abbrev pub NoListedPasses : LimitedQueries → List ListedClass → Type 0

@@ -10,8 +10,9 @@ ghost use Rattle.net_model.specs.Tree.{HasMoreThan, IsInPart};
 ghost use Rattle.query_classes.specs.Children.{IsInTree};
 ghost use Rattle.query_classes.specs.ClassList.{AreListed, classes_of_row, classes_of_rows};
 ghost use Rattle.run_endings.specs.Endings.{no_memory};
-ghost use Rattle.groot_run.specs.Counted.{EndsPast};
-ghost use Rattle.groot_run.specs.Outcome.{HasMoreNames, ListsClasses};
+ghost use Rattle.report_run.specs.Counted.{EndsPast};
+ghost use Rattle.report_run.specs.Budgets.{HasMoreNames};
+ghost use Rattle.groot_run.specs.Outcome.{ListsClasses};
 
 use base_names::base_graph;
 use dns_data::{List, Name, NoMemory, Octets};

@@ -11,7 +11,6 @@ ghost use Rattle.io_edges.specs.Counts.{last_count};
 ghost use Rattle.zone_maker.specs.Source.{drill_told};
 
 use crate::counts::put_count;
-use crate::judging::{CheckLimits, report_of};
 use crate::kept_text::status_of;
 use crate::load::configuration;
 use dns_data::{NoMemory, Octets};
@@ -19,6 +18,7 @@ use groot_line::{Program, USUAL_REWRITES};
 use io_edges::Gate;
 use net_model::{Config, Fault, Server, Zone};
 use query_verdicts::KeptReport;
+use report_run::{CheckLimits, report_of};
 use run_endings::Ending;
 use std::alloc::Global;
 use std::sync::Wait;
@@ -73,19 +73,19 @@ fn of_config<G: Gate + Sync, R: Threads + Wait + Sync>(
         rewrites: USUAL_REWRITES,
     };
     match report_of::<Fault, G, R>(rt, alloc, config, limits, gate) {
-        Ok(report) => told(alloc, zones, config, &report),
+        Ok(report) => drilled(alloc, zones, config, &report),
         Err(ending) => ending,
     }
 }
 
 /// The end of a drill with this report.
-fn told(alloc: Global, zones: u32, config: &Config, told: &KeptReport<Fault>) -> Ending
-    ensures { (report : Report) → told.now.names ≡ report.names → length told.now.kept ≡ length report.entries →
-        (result ≡ drilled zones config.now report) ⊎ (result ≡ no_memory) }
+fn drilled(alloc: Global, zones: u32, config: &Config, report: &KeptReport<Fault>) -> Ending
+    ensures { (whole : Report) → report.now.names ≡ whole.names → length report.now.kept ≡ length whole.entries →
+        (result ≡ drilled zones config.now whole) ⊎ (result ≡ no_memory) }
 {
-    let faults = told.kept.len() as u64;
-    let line = line_of(alloc, zones, records(config), told.names, faults);
-    Ending::written(status_of(told.kept.items()), line)
+    let faults = report.kept.len() as u64;
+    let line = line_of(alloc, zones, records(config), report.names, faults);
+    Ending::written(status_of(report.kept.items()), line)
 }
 
 /// The line of a drill.

@@ -5,11 +5,10 @@ ghost use Rattle.run_endings.specs.Endings.{no_memory};
 ghost use Rattle.groot_run.specs.Outcome as outcome;
 
 use crate::ask::MOST_WALKS;
-use dns_data::{Name, NoMemory};
+use dns_data::NoMemory;
 use groot_line::{Program, usage_line};
 use itoa::Buffer;
 use plain_resolver::MOST_WALKS_FOLLOWED;
-use query_verdicts::MOST_STATES;
 use run_endings::{Ending, EndingLine, Status, more_than, refusal_line};
 use std::alloc::Global;
 
@@ -48,13 +47,6 @@ pub(crate) fn too_many_to_check(alloc: Global, entry: u64) -> Ending
         Ok(line) => Ending::without_output(Status::Walks, line),
         Err(NoMemory) => Ending::no_memory(),
     }
-}
-
-/// The query reaches more pairs of state and type than are looked at.
-pub(crate) fn too_many_states(alloc: Global, query: &Name) -> Ending
-    ensures { (result ≡ outcome.too_many_states query.now) ⊎ (result ≡ no_memory) }
-{
-    Ending::too_many_states(alloc, MOST_STATES, query)
 }
 
 /// A line that says what there is more of than a limit, and for the entry of which number.

@@ -5,6 +5,7 @@ ghost use Rattle.std.proofs.Common.{refl};
 ghost use Rattle.graph_form.specs.declared.report.ReportEntry.{ReportEntry as EntryValue};
 ghost use Rattle.groot_run.specs.KeptText.{kept_text};
 ghost use Rattle.groot_run.specs.Outcome.{status_of};
+ghost use Rattle.groot_run.specs.ScopeTexts.{status_when};
 
 use dns_data::{List, NoMemory, Octets};
 use graph_form::ReportEntry;
@@ -49,15 +50,15 @@ impl EntryText {
 }
 
 /// The numbers of a report.
-pub(crate) fn numbers_of<K>(told: &KeptReport<K>) -> ReportNumbers
-    ensures classes { result.classes ≡ told.now.classes }
-    ensures names { result.names ≡ told.now.names }
-    ensures rewrites { result.rewrites ≡ told.now.rewrites }
+pub(crate) fn numbers_of<K>(report: &KeptReport<K>) -> ReportNumbers
+    ensures classes { result.classes ≡ report.now.classes }
+    ensures names { result.names ≡ report.now.names }
+    ensures rewrites { result.rewrites ≡ report.now.rewrites }
 {
     ReportNumbers {
-        classes: told.classes,
-        names: told.names,
-        rewrites: told.rewrites,
+        classes: report.classes,
+        names: report.names,
+        rewrites: report.rewrites,
     }
 }
 
@@ -77,8 +78,26 @@ pub(crate) fn texts_of(alloc: Global, kept: List<EntryText>) -> Result<List<Octe
 pub(crate) fn status_of<K>(kept: &[K]) -> Status
     ensures { (entries : ListOf EntryValue) → length kept.now ≡ length entries → result ≡ status_of entries }
 {
+    status_when(has_entries(kept))
+}
+
+/// Whether a report has a fault, by what is kept of its entries.
+pub(crate) fn has_entries<K>(kept: &[K]) -> bool
+    ensures { (entries : ListOf EntryValue) → length kept.now ≡ length entries → status_when result ≡ status_of entries }
+{
     match kept {
-        [] => Status::Clean,
-        _ => Status::Faults,
+        [] => false,
+        _ => true,
+    }
+}
+
+/// The status of reports that are written, by whether one has a fault.
+pub(crate) fn status_when(faulty: bool) -> Status
+    ensures { result ≡ status_when faulty }
+{
+    if faulty {
+        Status::Faults
+    } else {
+        Status::Clean
     }
 }

@@ -7,13 +7,11 @@
 mod ask;
 mod check;
 mod classes;
-mod counted;
 mod counts;
 mod drill;
 mod ending;
 mod held_view;
 mod job;
-mod judging;
 mod kept_text;
 mod laws;
 mod load;

@@ -11,18 +11,17 @@ ghost use Rattle.same_answers.specs.Values.{ArePairValues};
 ghost use Rattle.run_endings.specs.Ends.{EndsOrFails};
 ghost use Rattle.run_endings.specs.Endings.{OfReading, no_memory};
 ghost use Rattle.groot_line.specs.Program.{largest_names};
-ghost use Rattle.groot_run.specs.Outcome.{Compares, ComparesWith, compared_of, same_rewrites, told_same};
+ghost use Rattle.groot_run.specs.Outcome.{Compares, ComparesWith, compared_of, same_rewrites, sameness_written};
 ghost use Rattle.groot_run.specs.Programs.{conf_of};
 
-use crate::counted::{count_redirected, either_redirects};
 use crate::counts::put_count;
-use crate::ending::too_many_states;
 use crate::load::{configuration, last_configuration};
 use dns_data::{Name, NoMemory, Octets, RrType};
 use groot_line::{Program, USUAL_REWRITES, USUAL_WORKERS};
 use io_edges::{Files, Gate};
 use net_model::Config;
 use query_verdicts::MOST_STATES;
+use report_run::{count_redirected, either_redirects, too_many_states};
 use run_endings::{Ending, Status};
 use same_answers::{JudgeFault, PairNaming, Pairing, Sameness, laws};
 use std::alloc::Global;
@@ -138,13 +137,13 @@ fn counted<N: PairNaming + Send + Sync, G: Gate + Sync, R: Threads + Wait + Sync
         pairing.base_names(),
         names,
     ) {
-        Ok(()) => told_by(rt, alloc, pairing, names, gate),
+        Ok(()) => by_pairing(rt, alloc, pairing, names, gate),
         Err(ending) => ending,
     }
 }
 
-/// What a comparison tells of its configurations, once it has judged their class tree.
-fn told_by<N: PairNaming + Send + Sync, G: Gate + Sync, R: Threads + Wait + Sync>(
+/// How a comparison ends that judges the class tree of its configurations.
+fn by_pairing<N: PairNaming + Send + Sync, G: Gate + Sync, R: Threads + Wait + Sync>(
     rt: &R,
     alloc: Global,
     pairing: &Pairing<'_, N>,
@@ -159,7 +158,7 @@ fn told_by<N: PairNaming + Send + Sync, G: Gate + Sync, R: Threads + Wait + Sync
     laws::tree_is_reached();
     match run_tree(rt, alloc, pairing, USUAL_WORKERS, names, gate) {
         Ok(filed) => match pairing.outcome(filed) {
-            Ok(sameness) => told(alloc, &sameness),
+            Ok(sameness) => ending_of(alloc, &sameness),
             Err(JudgeFault::StatesPassed(query)) => too_many_states(alloc, &query),
             Err(JudgeFault::NoMemory) => Ending::no_memory(),
         },
@@ -168,9 +167,9 @@ fn told_by<N: PairNaming + Send + Sync, G: Gate + Sync, R: Threads + Wait + Sync
     }
 }
 
-/// The end of a comparison that tells this.
-fn told(alloc: Global, sameness: &Sameness) -> Ending
-    ensures { (result ≡ told_same sameness.now) ⊎ (result ≡ no_memory) }
+/// How a comparison ends that gives this answer.
+fn ending_of(alloc: Global, sameness: &Sameness) -> Ending
+    ensures { (result ≡ sameness_written sameness.now) ⊎ (result ≡ no_memory) }
 {
     match sameness {
         Sameness::Same { classes, names } => Ending::written(

@@ -1,9 +1,8 @@
 //! The report on the queries at or below a name, and what the checks that an operator brings find in their classes.
 
-ghost use Rattle.std.specs.Prelude.{◌≡◌, ◌⊎◌, ◌<◌, ◌≤◌, [], List as ListOf, length, map, IfOk, IfErr};
+ghost use Rattle.std.specs.Prelude.{◌≡◌, ◌⊎◌, ◌<◌, ◌≤◌, [], map, IfOk, IfErr};
 ghost use Rattle.std.specs.List.{flat_map};
 ghost use Rattle.graph_form.specs.declared.report.Report.{Report};
-ghost use Rattle.graph_form.specs.declared.report.ReportEntry.{ReportEntry as EntryValue};
 ghost use Rattle.groot_run.specs.KeptText.{kept_text};
 ghost use Rattle.net_model.specs.Tree.{IsInPart};
 ghost use Rattle.query_classes.specs.ClassList.{AreListed, classes_of_rows};
@@ -14,15 +13,14 @@ ghost use Rattle.query_verdicts.specs.Subjects.{IsCovering};
 ghost use Rattle.report_json.specs.Sites.{scope_text};
 ghost use Rattle.run_endings.specs.Endings.{no_memory};
 ghost use Rattle.site_checks.specs.Views as views;
-ghost use Rattle.groot_run.specs.Counted.{EndsPast};
+ghost use Rattle.report_run.specs.Counted.{EndsPast};
 ghost use Rattle.groot_line.specs.Program.{largest_names};
-ghost use Rattle.groot_run.specs.Outcome.{Scopes, scope_of, status_of};
+ghost use Rattle.groot_run.specs.Outcome.{Scopes, scope_of};
 ghost use Rattle.groot_run.specs.ShownClasses.{sites_of};
-ghost use Rattle.groot_run.specs.ScopeTexts.{EndsAsTold, TellsScope, TellsText, status_when};
+ghost use Rattle.groot_run.specs.ScopeTexts.{EndsByText, TellsScope, TellsText};
 
 use crate::classes::rows_at;
-use crate::judging::{CheckLimits, told};
-use crate::kept_text::{EntryText, numbers_of, texts_of};
+use crate::kept_text::{EntryText, has_entries, numbers_of, status_when, texts_of};
 use crate::shown::{ShownChecks, Watchers, findings};
 use crate::site::show_rows;
 use class_judge::{Judge, Naming};
@@ -34,14 +32,15 @@ use net_model::Config;
 use query_classes::ClassRow;
 use query_verdicts::{KeptReport, MOST_STATES};
 use report_json::scope_pieces;
-use run_endings::{Ending, Status};
+use report_run::{CheckLimits, told};
+use run_endings::Ending;
 use std::alloc::Global;
 use std::marker::Brand;
 use std::mem::forget;
 use std::sync::Wait;
 use std::thread::Threads;
 
-/// What is told of scopes: whether one has a fault, and their text, in pieces.
+/// The text of scopes, in pieces, and whether one of them has a fault.
 #[derive(Drop)]
 pub(crate) struct ScopeText {
     pub faulty: bool,
@@ -70,28 +69,17 @@ pub(crate) fn scope<W: Watchers, G: Gate + Sync, R: Threads + Wait + Sync>(
     ended(judged::<Brand, W, G, R>(rt, alloc, config, scope, names, gate, sites))
 }
 
-/// How a run ends by what is told of scopes.
-pub(crate) fn ended(told: Result<ScopeText, Ending>) -> Ending
-    ensures { EndsAsTold told result }
+/// How a run ends by the text of scopes.
+pub(crate) fn ended(text: Result<ScopeText, Ending>) -> Ending
+    ensures { EndsByText text result }
 {
-    match told {
+    match text {
         Ok(text) => Ending::in_pieces(status_when(text.faulty), Ok(text.pieces)),
         Err(ending) => ending,
     }
 }
 
-/// The status of reports that are written, by whether one has a fault.
-fn status_when(faulty: bool) -> Status
-    ensures { result ≡ status_when faulty }
-{
-    if faulty {
-        Status::Faults
-    } else {
-        Status::Clean
-    }
-}
-
-/// What is told of the scope of a name, by the judge of this name.
+/// The text of the scope of a name, by the judge of this name.
 fn judged<N: Naming + Send + Sync, W: Watchers, G: Gate + Sync, R: Threads + Wait + Sync>(
     rt: &R,
     alloc: Global,
@@ -109,18 +97,18 @@ fn judged<N: Naming + Send + Sync, W: Watchers, G: Gate + Sync, R: Threads + Wai
 {
     match ScopeJudge::<N>::prepare(alloc, config, USUAL_REWRITES, MOST_STATES, scope) {
         Ok(judge) => {
-            let told = told_by(rt, alloc, judge.as_judge(), scope, names, gate, sites);
+            let text = text_by_judge(rt, alloc, judge.as_judge(), scope, names, gate, sites);
             // The run ends so, and the trees of all zones with it: none is taken apart.
             forget(judge);
-            told
+            text
         }
         Err(NoMemory) => Err(Ending::no_memory()),
     }
 }
 
-/// What is told of the scope of a name, by its judge. The names of the scope are counted before one is judged, since DNAME
+/// The text of the scope of a name, by its judge. The names of the scope are counted before one is judged, since DNAME
 /// records may multiply them.
-pub(crate) fn told_by<
+pub(crate) fn text_by_judge<
     N: Naming + Send + Sync,
     W: Watchers,
     G: Gate + Sync,
@@ -154,7 +142,7 @@ pub(crate) fn told_by<
     }
 }
 
-/// What is told of a scope whose report and whose names' rows these are: the checks are shown the views of the classes, in
+/// The text of a scope whose report and whose names' rows these are: the checks are shown the views of the classes, in
 /// class order.
 fn shown<N: Naming, W: Watchers>(
     alloc: Global,
@@ -179,16 +167,6 @@ fn shown<N: Naming, W: Watchers>(
             }
         }
         Err(ending) => Err(ending),
-    }
-}
-
-/// Whether a report has a fault, by what is kept of its entries.
-fn has_entries<K>(kept: &[K]) -> bool
-    ensures { (entries : ListOf EntryValue) → length kept.now ≡ length entries → status_when result ≡ status_of entries }
-{
-    match kept {
-        [] => false,
-        _ => true,
     }
 }
 
@@ -218,7 +196,7 @@ fn text_of<W: Watchers>(
         → flat_map (λ piece. piece) pieces ≡ scope_text whole scope.now (map (views.told_by []) (sites_of (λ b. name b) (λ b. held b) (λ b. step b) (W.sites sites.now.own) sites.now.brought.items))) }
 {
     let numbers = numbers_of(&report);
-    let told = findings(alloc, sites)?;
+    let found = findings(alloc, sites)?;
     let texts = texts_of(alloc, report.kept)?;
-    scope_pieces(alloc, numbers, texts, scope, told.items())
+    scope_pieces(alloc, numbers, texts, scope, found.items())
 }

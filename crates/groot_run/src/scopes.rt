@@ -17,7 +17,7 @@ ghost use Rattle.groot_run.specs.ScopeTexts.{TellsScope, TellsScopes};
 
 use crate::load::{configuration, limits_of};
 use crate::name_list::{ListFault, names_of};
-use crate::scope::{ScopeText, ended, told_by};
+use crate::scope::{ScopeText, ended, text_by_judge};
 use crate::shown::own_checks;
 use class_judge::Naming;
 use config_load::read_file;
@@ -114,7 +114,7 @@ fn bad_name(alloc: Global, file: &str, line: u32) -> Ending
     ensures { (result ≡ outcome.bad_name file.now line) ⊎ (result ≡ no_memory) }
 {
     match refusal_line(alloc, file, line, "bad-name") {
-        Ok(told) => Ending::without_output(Status::Refused, told),
+        Ok(said) => Ending::without_output(Status::Refused, said),
         Err(NoMemory) => Ending::no_memory(),
     }
 }
@@ -138,7 +138,7 @@ fn of_names<G: Gate + Sync, R: Threads + Wait + Sync>(
     }
 }
 
-/// What is told of the scopes of names, one after another, with the same graphs.
+/// The text of the scopes of names, one after another, with the same graphs.
 fn each_scope<G: Gate + Sync, R: Threads + Wait + Sync>(
     rt: &R,
     alloc: Global,
@@ -181,7 +181,7 @@ fn both_texts(first: ScopeText, second: ScopeText) -> Result<ScopeText, NoMemory
     })
 }
 
-/// What is told of the scope of a name, and the graphs, for the next name.
+/// The text of the scope of a name, and the graphs, for the next name.
 fn scope_with<'a, G: Gate + Sync, R: Threads + Wait + Sync>(
     rt: &R,
     alloc: Global,
@@ -193,8 +193,8 @@ fn scope_with<'a, G: Gate + Sync, R: Threads + Wait + Sync>(
     requires limits { graphs ≡ limited_to graphs.config scope_rewrites most_states }
     requires some { 0 < limit }
     requires few { limit ≤ largest_names }
-    ensures text { IfOk result (λ told. TellsScope limit (scope_of graphs.entry.config name.now) own_sites (Ok told.0)) }
-    ensures back { IfOk result (λ told. told.1 ≡ graphs.entry) }
+    ensures text { IfOk result (λ both. TellsScope limit (scope_of graphs.entry.config name.now) own_sites (Ok both.0)) }
+    ensures back { IfOk result (λ both. both.1 ≡ graphs.entry) }
     ensures err { IfErr result (λ ending. TellsScope limit (scope_of graphs.entry.config name.now) own_sites (Err ending)) }
 {
     // The labels are read, so that the length of the name is known here.
@@ -202,7 +202,7 @@ fn scope_with<'a, G: Gate + Sync, R: Threads + Wait + Sync>(
     judged_with::<Brand, G, R>(rt, alloc, graphs, name, limit, gate)
 }
 
-/// What is told of the scope of a name, by the judge of this name, which gives the graphs back.
+/// The text of the scope of a name, by the judge of this name, which gives the graphs back.
 fn judged_with<'a, N: Naming + Send + Sync, G: Gate + Sync, R: Threads + Wait + Sync>(
     rt: &R,
     alloc: Global,
@@ -216,13 +216,13 @@ fn judged_with<'a, N: Naming + Send + Sync, G: Gate + Sync, R: Threads + Wait + 
     requires covering { IsCovering N.subject }
     requires some { 0 < limit }
     requires few { limit ≤ largest_names }
-    ensures text { IfOk result (λ told. TellsScope limit N.subject own_sites (Ok told.0)) }
-    ensures back { IfOk result (λ told. told.1 ≡ graphs.entry) }
+    ensures text { IfOk result (λ both. TellsScope limit N.subject own_sites (Ok both.0)) }
+    ensures back { IfOk result (λ both. both.1 ≡ graphs.entry) }
     ensures err { IfErr result (λ ending. TellsScope limit N.subject own_sites (Err ending)) }
 {
     let judge = graphs.into_judge::<N>(alloc, name)?;
     let mut own = own_checks(alloc);
-    match told_by(rt, alloc, &judge, name, limit, gate, &mut own) {
+    match text_by_judge(rt, alloc, &judge, name, limit, gate, &mut own) {
         Ok(text) => Ok((text, ScopeGraphs::of_judge(judge))),
         Err(ending) => Err(ending),
     }

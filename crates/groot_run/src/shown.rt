@@ -23,7 +23,7 @@ pub(crate) trait Watchers {
 
     /// What all checks tell, in order.
     fn findings(&self, alloc: Global) -> Result<List<SiteFindings>, NoMemory>
-        ensures { IfOk result (λ told. told ≡ map (told_by []) (sites self.now)) };
+        ensures { IfOk result (λ found. found ≡ map (told_by []) (sites self.now)) };
 }
 
 /// No check.
@@ -59,16 +59,16 @@ impl Watchers for OwnChecks {
     }
 
     fn findings(&self, alloc: Global) -> Result<List<SiteFindings>, NoMemory> {
-        let mut told = List::new(alloc);
-        told.push(told_of(alloc, &self.a_only)?)?;
-        told.push(told_of(alloc, &self.answering)?)?;
-        Ok(told)
+        let mut found = List::new(alloc);
+        found.push(findings_of(alloc, &self.a_only)?)?;
+        found.push(findings_of(alloc, &self.answering)?)?;
+        Ok(found)
     }
 }
 
-/// What a check tells.
-fn told_of<C: SiteCheck>(alloc: Global, check: &C) -> Result<SiteFindings, NoMemory>
-    ensures { IfOk result (λ told. told ≡ told_by [] (record { name = C.name check.now; held = C.held check.now; step = C.step check.now })) }
+/// The findings of a check.
+fn findings_of<C: SiteCheck>(alloc: Global, check: &C) -> Result<SiteFindings, NoMemory>
+    ensures { IfOk result (λ found. found ≡ told_by [] (record { name = C.name check.now; held = C.held check.now; step = C.step check.now })) }
 {
     Ok(SiteFindings {
         title: check.title(alloc)?,
@@ -115,11 +115,11 @@ pub(crate) fn findings<W: Watchers>(
     alloc: Global,
     sites: &ShownChecks<W>,
 ) -> Result<List<SiteFindings>, NoMemory>
-    ensures { IfOk result (λ told. told ≡ map (told_by []) (sites_of (λ b. name b) (λ b. held b) (λ b. step b) (W.sites sites.now.own) sites.now.brought.items)) }
+    ensures { IfOk result (λ found. found ≡ map (told_by []) (sites_of (λ b. name b) (λ b. held b) (λ b. step b) (W.sites sites.now.own) sites.now.brought.items)) }
 {
-    let mut told = sites.own.findings(alloc)?.into_vec();
-    told.append(&mut tell(alloc, sites.brought.as_slice())?.into_vec())?;
-    Ok(List::from_vec(told))
+    let mut found = sites.own.findings(alloc)?.into_vec();
+    found.append(&mut tell(alloc, sites.brought.as_slice())?.into_vec())?;
+    Ok(List::from_vec(found))
 }
 
 /// Shows a view to checks that an operator brings, in order. After an error some of them have seen it.

@@ -7,12 +7,12 @@ ghost use Rattle.query_verdicts.specs.Queries.{WalksLike, limited_to, most_state
 ghost use Rattle.report_json.specs.Sites.{sites_text};
 ghost use Rattle.run_endings.specs.Endings.{no_memory};
 ghost use Rattle.site_checks.specs.Views.{told_by};
+ghost use Rattle.report_run.specs.Budgets.{WithinStates};
 ghost use Rattle.groot_run.specs.HeldView.{IsHeld};
-ghost use Rattle.groot_run.specs.Outcome.{TellsFindings, ShowsClasses, WithinStates, site_rewrites};
+ghost use Rattle.groot_run.specs.Outcome.{TellsFindings, ShowsClasses, site_rewrites};
 ghost use Rattle.groot_run.specs.ShownClasses.{AreShown, EndsAmongClasses, sites_of};
 
 use crate::classes::rows_within;
-use crate::ending::too_many_states;
 use crate::held_view::{HeldView, change_class, hold};
 use crate::shown::{ShownChecks, Watchers, findings, show};
 use dns_data::{Name, NoMemory, Octets};
@@ -22,6 +22,7 @@ use net_model::{Class, Config};
 use query_classes::ClassRow;
 use query_verdicts::{MOST_STATES, QueryGraphs};
 use report_json::sites_text;
+use report_run::too_many_states;
 use run_endings::{Ending, Status};
 use site_checks::view;
 use std::alloc::Global;
@@ -89,8 +90,8 @@ fn find_by<W: Watchers>(
 fn text_of<W: Watchers>(alloc: Global, sites: &ShownChecks<W>) -> Result<Octets, NoMemory>
     ensures { IfOk result (λ text. text ≡ sites_text (map (told_by []) (sites_of (λ b. name b) (λ b. held b) (λ b. step b) (W.sites sites.now.own) sites.now.brought.items))) }
 {
-    let told = findings(alloc, sites)?;
-    sites_text(alloc, told.items())
+    let found = findings(alloc, sites)?;
+    sites_text(alloc, found.items())
 }
 
 /// Shows the views of the classes of the rows to all checks, in order, up to the first representative that reaches too many

@@ -7,7 +7,8 @@ use Rattle.dns_data.specs.declared.rr_type.RrType.{RrType}
 use Rattle.dns_data.proofs.Membership.{has_first, has_later, map_has, from_map, pairs_of_images}
 use Rattle.dns_data.proofs.Names.{all_so}
 use Rattle.graph_form.specs.Report.{Subject}
-use Rattle.groot_run.specs.Outcome.{HasMoreNames, WithinNames, WithinStates, IsReported, Checks, IsDrilled, Drills, TellsFindings, ShowsClasses, IsClassList, ListsClasses, EndsBehind, Scopes, ScopesEach, reported, drilled, listed, told_of_views, drill_rewrites, site_rewrites, scope_rewrites, scope_of, scope_written, too_many_states, with_scope, own_sites}
+use Rattle.report_run.specs.Budgets.{HasMoreNames, WithinNames, WithinStates, too_many_states}
+use Rattle.groot_run.specs.Outcome.{IsReported, Checks, IsDrilled, Drills, TellsFindings, ShowsClasses, IsClassList, ListsClasses, EndsBehind, Scopes, ScopesEach, reported, drilled, listed, findings_written, drill_rewrites, site_rewrites, scope_rewrites, scope_of, scope_written, with_scope, own_sites}
 use Rattle.job_scope.proofs.Scopes.{is_covered}
 use Rattle.label_graph.specs.LiveSet.{IsClosed}
 use Rattle.net_model.specs.declared.config.Config.{Config}
@@ -180,7 +181,7 @@ pub site_ends : (limit : ℕ) (sites : List Site) (config : Config) → (ending 
 site_ends limit sites config =
     let (views, are) = views_exist (whole_config config site_rewrites) (covering config site_rewrites) in
     within_names config limit (λ ending. WithinStates config site_rewrites (TellsFindings config sites ending) ending)
-    (within_states config site_rewrites (TellsFindings config sites) (told_of_views sites views, record { views = views; are_views = are; as_text = refl }))
+    (within_states config site_rewrites (TellsFindings config sites) (findings_written sites views, record { views = views; are_views = are; as_text = refl }))
 
 -- and `classes`
 pub list_ends : (limit : ℕ) (config : Config) → (ending : Ending) × ListsClasses limit config ending

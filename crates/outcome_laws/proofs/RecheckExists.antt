@@ -37,7 +37,7 @@ use Rattle.query_verdicts.proofs.ShowsDecided.{shows_decided, walks_take}
 use Rattle.report_check.specs.Checked.{PassesWalks, IsConfirmed, IsWrong, IsFirst, LearningPasses, RoundsPass, IsChecked}
 use Rattle.report_check.specs.ReportIn.{StatedReport, report_in}
 use Rattle.report_check.specs.Entries.{ByWalks, entry_with, first_repeats}
-use Rattle.report_check.specs.Right.{IsRight, NamesQuery}
+use Rattle.report_check.specs.RightEntries.{IsRight, NamesQuery}
 use Rattle.report_check.specs.declared.answer.Checked.{Checked}
 use Rattle.report_check.specs.declared.answer.Checked.TheVariants as checks
 use Rattle.report_check.specs.declared.answer.CheckFault.{CheckFault}

@@ -14,7 +14,8 @@ use Rattle.dns_data.proofs.LeastItems.{least_or_none}
 use Rattle.dns_data.proofs.Membership.{map_has, from_map}
 use Rattle.dns_data.proofs.Names.{all_so}
 use Rattle.graph_form.proofs.Reached.{every_type}
-use Rattle.groot_run.specs.Outcome.{Compares, HasMoreNamesInBoth, told_same, too_many_states}
+use Rattle.report_run.specs.Budgets.{too_many_states}
+use Rattle.groot_run.specs.Outcome.{Compares, HasMoreNamesInBoth, sameness_written}
 use Rattle.label_graph.specs.LiveSet.{IsClosed}
 use Rattle.net_model.specs.declared.class.Class.{Class}
 use Rattle.net_model.specs.declared.config.Config.{Config}
@@ -270,6 +271,6 @@ module _ (two : Compared) where
           | inl (query, first) ↦ (too_many_states query, inr (not_more, inl (query, first, refl)))
           | inr none ↦ (
               let (sameness, is) = sameness_exists in
-              (told_same sameness, inr (not_more, inr (none, record { sameness = sameness; is_sameness = is; as_line = refl }))))
+              (sameness_written sameness, inr (not_more, inr (none, record { sameness = sameness; is_sameness = is; as_line = refl }))))
         ]
       ]

@@ -8,10 +8,10 @@ use Rattle.groot_run.proofs.check.written.Goals as goal
 
 pub returns : goal.returns
 returns c = λ report keeps.
-    let told = c.args.told in
+    let kept = c.args.report in
     let text = report_text report in
-    elim (c.in_pieces.ensures text (of_report c.pieces_of.result told report_text report keeps c.pieces_of.ensures)) [
+    elim (c.in_pieces.ensures text (of_report c.pieces_of.result kept report_text report keeps c.pieces_of.ensures)) [
       | inl is ↦ inl (is ∙ ap (λ (how : Status). with_output how text)
-          (c.status_of-status.ensures report.entries (as_many kept_text told.kept c.items.result.now report.entries c.items.ensures keeps.entries)))
+          (c.status_of-status.ensures report.entries (as_many kept_text kept.kept c.items.result.now report.entries c.items.ensures keeps.entries)))
       | inr ran_out ↦ inr ran_out
     ]

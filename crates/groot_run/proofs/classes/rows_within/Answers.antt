@@ -6,8 +6,8 @@ use Rattle.net_model.specs.Reading.{ground_of}
 use Rattle.net_model.specs.Tree.{HasMoreThan, IsInPart}
 use Rattle.query_classes.specs.ClassList.{AreListed, classes_of_rows}
 use Rattle.query_classes.proofs.SameGrounds.{listed_same}
-use Rattle.groot_run.specs.Counted.{EndsPast}
-use Rattle.groot_run.proofs.ClassLists.{ends_past, has_no_more}
+use Rattle.report_run.specs.Counted.{EndsPast}
+use Rattle.report_run.proofs.CountedNames.{ends_past, has_no_more}
 use Rattle.groot_run.proofs.classes.rows_within.Goals as goal
 
 pub returns-in-Ok-clause-listed : goal.returns-in-Ok-clause-listed

@@ -1,19 +1,9 @@
 use Rattle.std.proofs.Common.{◌≡◌, ◌⊎◌, ℕ, List, subst}
-use Rattle.config_load.specs.Load.{ComesToFile}
-use Rattle.config_load.specs.Reading.{file_octets}
-use Rattle.config_load.specs.declared.limits.Limits.{Limits}
-use Rattle.run_endings.specs.Ends.{EndsOrFails}
-use Rattle.run_endings.specs.Endings.{OfReading, no_memory}
+use Rattle.run_endings.specs.Endings.{no_memory}
 use Rattle.run_endings.specs.declared.ending.Ending.{Ending}
-use Rattle.io_edges.specs.Files.{FilesTold}
 use Rattle.groot_run.specs.Outcome.{IsRechecked}
-use Rattle.groot_run.proofs.Rechecked.{over_file, over_no_file}
+use Rattle.groot_run.proofs.Rechecked.{EndsWithin, over_file, over_no_file}
 use Rattle.groot_run.proofs.recheck.of_config.Goals as goal
-
--- how a run ends over a file within these limits
-abbrev EndsWithin : FilesTold → (List ℕ → ℕ) → (List ℕ → ℕ) → List ℕ → (List ℕ → Ending → Type 0) → Ending → Limits → Type 0
-EndsWithin told before after file of_octets ending limits =
-    EndsOrFails (OfReading file of_octets (file_octets limits file told) ending) (ComesToFile (file_octets limits file) told) before after ending
 
 pub returns-in-Ok-clause-cause : goal.returns-in-Ok-clause-cause
 returns-in-Ok-clause-cause g c =

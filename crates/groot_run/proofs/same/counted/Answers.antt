@@ -1,6 +1,6 @@
 use Rattle.std.proofs.Common.{inl, inr}
 use Rattle.same_answers.specs.Compared.{joint}
-use Rattle.groot_run.proofs.ClassLists.{ends_past}
+use Rattle.report_run.proofs.CountedNames.{ends_past}
 use Rattle.groot_run.proofs.same.counted.Goals as goal
 
 pub returns-in-Err : goal.returns-in-Err

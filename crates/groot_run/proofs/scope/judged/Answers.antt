@@ -2,5 +2,5 @@ use Rattle.std.proofs.Common.{ap}
 use Rattle.graph_form.specs.Report.{Subject}
 use Rattle.groot_run.proofs.scope.judged.Goals as goal
 
-pub told_by-told-requires-clause-name : goal.told_by-told-requires-clause-name
-told_by-told-requires-clause-name g c lifetimes outlives = (ap (λ (subject : Subject). subject.below) c.requires.name.0, c.requires.name.1)
+pub text_by_judge-text-requires-clause-name : goal.text_by_judge-text-requires-clause-name
+text_by_judge-text-requires-clause-name g c lifetimes outlives = (ap (λ (subject : Subject). subject.below) c.requires.name.0, c.requires.name.1)

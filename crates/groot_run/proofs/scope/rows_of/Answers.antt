@@ -5,8 +5,8 @@ use Rattle.dns_data.specs.Name.{Labels}
 use Rattle.net_model.specs.Tree.{IsInPart}
 use Rattle.query_classes.specs.ClassList.{AreListed, classes_of_rows}
 use Rattle.query_classes.proofs.SameGrounds.{listed_same}
-use Rattle.groot_run.specs.Counted.{EndsPast}
-use Rattle.groot_run.proofs.ClassLists.{part_ends_past}
+use Rattle.report_run.specs.Counted.{EndsPast}
+use Rattle.report_run.proofs.CountedNames.{part_ends_past}
 use Rattle.groot_run.proofs.scope.rows_of.Goals as goal
 
 pub returns-clause-listed : goal.returns-clause-listed

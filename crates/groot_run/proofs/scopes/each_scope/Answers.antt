@@ -1,5 +1,5 @@
 use Rattle.std.proofs.Common.{◌∙◌}
-use Rattle.groot_run.proofs.ScopeTexts.{all_told, ends_at_next, goes_on_behind_next}
+use Rattle.groot_run.proofs.ScopeTexts.{all_scopes, ends_at_next, goes_on_behind_next}
 use Rattle.groot_run.proofs.scopes.each_scope.Goals as goal
 
 pub returns-in_err-more : goal.returns-in_err-more
@@ -17,4 +17,4 @@ loop-name-preserved g c = record {
 
 pub returns : goal.returns
 returns g c =
-    all_told c.args.limit c.args.graphs.config c.args.names.now c.loop-name.name-index c.loop-name.text c.loop-name-test.false c.loop-name.invariant.goes
+    all_scopes c.args.limit c.args.graphs.config c.args.names.now c.loop-name.name-index c.loop-name.text c.loop-name-test.false c.loop-name.invariant.goes

@@ -1,23 +1,13 @@
 use Rattle.std.proofs.Common.{◌≡◌, ◌⊎◌, ℕ, List, subst}
-use Rattle.config_load.specs.Load.{ComesToFile}
-use Rattle.config_load.specs.Reading.{file_octets}
-use Rattle.config_load.specs.declared.limits.Limits.{Limits}
 use Rattle.groot_line.specs.Program.{usual_names}
-use Rattle.run_endings.specs.Ends.{EndsOrFails}
-use Rattle.run_endings.specs.Endings.{OfReading, no_memory}
+use Rattle.run_endings.specs.Endings.{no_memory}
 use Rattle.run_endings.specs.declared.ending.Ending.{Ending}
-use Rattle.io_edges.specs.Files.{FilesTold}
 use Rattle.groot_run.specs.NameList.{names_of}
 use Rattle.groot_run.specs.Outcome.{ScopesNames}
 use Rattle.groot_run.specs.Programs.{limits_of}
 use Rattle.groot_run.proofs.NameLists.{file_is_short}
-use Rattle.groot_run.proofs.Rechecked.{over_file, over_no_file}
+use Rattle.groot_run.proofs.Rechecked.{EndsWithin, over_file, over_no_file}
 use Rattle.groot_run.proofs.scopes.of_config.Goals as goal
-
--- how a run ends over a file within these limits
-abbrev EndsWithin : FilesTold → (List ℕ → ℕ) → (List ℕ → ℕ) → List ℕ → (List ℕ → Ending → Type 0) → Ending → Limits → Type 0
-EndsWithin told before after file of_octets ending limits =
-    EndsOrFails (OfReading file of_octets (file_octets limits file told) ending) (ComesToFile (file_octets limits file) told) before after ending
 
 pub of_octets-requires-clause-short : goal.of_octets-requires-clause-short
 of_octets-requires-clause-short g c lifetimes outlives =

@@ -1,5 +1,6 @@
 use Rattle.std.proofs.Common.{inl, inr}
-use Rattle.groot_run.specs.Outcome.{WithinStates, TellsFindings, site_rewrites}
+use Rattle.report_run.specs.Budgets.{WithinStates}
+use Rattle.groot_run.specs.Outcome.{TellsFindings, site_rewrites}
 use Rattle.groot_run.proofs.Endings.{without_rows}
 use Rattle.groot_run.proofs.site.site.Goals as goal
 

@@ -6,4 +6,4 @@ use Rattle.groot_run.proofs.site.text_of.Goals as goal
 pub returns : goal.returns
 returns g c =
     subst (λ (told : List SiteFindings). IfOk c.sites_text.result (λ text. text ≡ sites_text told))
-    (c.items.ensures ∙ c.in_ok-told.ensures) c.sites_text.ensures
+    (c.items.ensures ∙ c.in_ok-found.ensures) c.sites_text.ensures

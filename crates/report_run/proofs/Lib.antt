@@ -1,0 +1,4 @@
+pub mod Budgets
+pub mod CountedNames
+pub mod JudgedTrees
+pub mod PassedNames
