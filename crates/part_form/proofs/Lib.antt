@@ -1,4 +1,4 @@
-pub mod FirstsTold
+pub mod HeldParts
 pub mod PlacesRead
 pub mod ReadBack
 pub mod Refusals

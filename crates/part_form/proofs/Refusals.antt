@@ -22,9 +22,9 @@ never_too_many (part ∷ parts) count rewrites next e =
     by false false e rest = rest e
 
 -- why reports aren't those of all parts is the answer to them
-pub refusal_told : (parts : List PartStated) (fault : MergeFault) → apart parts ≡ Some fault → IsMerged parts (Err fault)
-refusal_told parts (OtherRewrites count) e = e
-refusal_told parts (NotNext count) e = e
-refusal_told parts NotLast e = e
-refusal_told parts TooMany e = absurd (never_too_many parts 0 (first_rewrites parts) (Some None) e)
-refusal_told parts NoMemory e = tt
+pub refusal_is : (parts : List PartStated) (fault : MergeFault) → apart parts ≡ Some fault → IsMerged parts (Err fault)
+refusal_is parts (OtherRewrites count) e = e
+refusal_is parts (NotNext count) e = e
+refusal_is parts NotLast e = e
+refusal_is parts TooMany e = absurd (never_too_many parts 0 (first_rewrites parts) (Some None) e)
+refusal_is parts NoMemory e = tt

@@ -88,17 +88,17 @@ abbrev pub held_entries : List StatedPart → List StatedEntry
 held_entries parts = flat_map (λ part. part.entries) parts
 
 -- what an entry tells
-abbrev pub told_entry : StatedEntry → EntryStated
-told_entry entry = record { fault = entry.fault; class = entry.class; value = view entry.value }
+abbrev pub entry_of : StatedEntry → EntryStated
+entry_of entry = record { fault = entry.fault; class = entry.class; value = view entry.value }
 
 -- what the report of a part tells
-abbrev pub told_part : StatedPart → PartStated
-told_part part =
+abbrev pub part_of : StatedPart → PartStated
+part_of part =
     record {
       from = part.from;
       to = part.to;
       classes = part.classes;
       names = part.names;
       rewrites = part.rewrites;
-      entries = map told_entry part.entries;
+      entries = map entry_of part.entries;
     }

@@ -5,7 +5,7 @@ ghost use Rattle.serde_json.specs.View.{view as data_of};
 ghost use Rattle.net_model.proofs.FaultOrder.{classes_total};
 ghost use Rattle.std.proofs.lemmas.Cmp.{on_total};
 ghost use Rattle.part_form.specs.declared.entries.StatedEntry.{StatedEntry as EntryValue};
-ghost use Rattle.part_form.specs.Stated.{entries_stated, entry_stated, entry_with, held_fault, held_order, told_entry};
+ghost use Rattle.part_form.specs.Stated.{entries_stated, entry_stated, entry_with, held_fault, held_order, entry_of};
 
 use crate::places::{class_in, fault_in};
 use dns_data::{List, NoMemory};
@@ -44,7 +44,7 @@ pub(crate) fn stated_entries(
     alloc: Global,
     values: &[Value],
 ) -> Result<Option<List<StatedEntry>>, NoMemory>
-    ensures { IfOk result (λ found. option_map (map told_entry) found ≡ entries_stated (map data_of values.now)) }
+    ensures { IfOk result (λ found. option_map (map entry_of) found ≡ entries_stated (map data_of values.now)) }
 {
     let mut entries = List::new(alloc);
     for value in values {
@@ -61,8 +61,8 @@ fn put_stated(
     value: &Value,
     entries: &mut List<StatedEntry>,
 ) -> Result<bool, NoMemory>
-    ensures told { IfOk result (λ told. told ≡ true → (entry : EntryValue) × (entry_stated (data_of value.now) ≡ Some (told_entry entry)) × (entries.new ≡ entries.old ++ entry ∷ [])) }
-    ensures none { IfOk result (λ told. told ≡ false → entry_stated (data_of value.now) ≡ None) }
+    ensures stated { IfOk result (λ tells. tells ≡ true → (entry : EntryValue) × (entry_stated (data_of value.now) ≡ Some (entry_of entry)) × (entries.new ≡ entries.old ++ entry ∷ [])) }
+    ensures none { IfOk result (λ tells. tells ≡ false → entry_stated (data_of value.now) ≡ None) }
 {
     match stated_entry(alloc, value)? {
         Some(entry) => {
@@ -75,7 +75,7 @@ fn put_stated(
 
 /// The entry that an object tells: its own at `entry`, with the class at `class` and `name`.
 fn stated_entry(alloc: Global, value: &Value) -> Result<Option<StatedEntry>, NoMemory>
-    ensures { IfOk result (λ found. option_map told_entry found ≡ entry_stated (data_of value.now)) }
+    ensures { IfOk result (λ found. option_map entry_of found ≡ entry_stated (data_of value.now)) }
 {
     let Some(entry) = value.get("entry") else {
         return Ok(None);
@@ -88,7 +88,7 @@ fn stated_entry(alloc: Global, value: &Value) -> Result<Option<StatedEntry>, NoM
 
 /// The entry with this value and this class, if the value tells a fault.
 fn entry_with(alloc: Global, class: Class, entry: &Value) -> Result<Option<StatedEntry>, NoMemory>
-    ensures { IfOk result (λ found. option_map told_entry found ≡ entry_with class (data_of entry.now)) }
+    ensures { IfOk result (λ found. option_map entry_of found ≡ entry_with class (data_of entry.now)) }
 {
     let value = entry.clone()?;
     match fault_in(alloc, entry)? {

@@ -2,7 +2,7 @@
 
 ghost use Rattle.std.specs.Prelude.{◌≡◌, ◌++◌, ◌≤◌, ◌^◌, map, sum_by, IfOk, OnOk, Some, None, option_map, MatchOption};
 ghost use Rattle.part_form.specs.Merging.{IsMerged, apart_from, begins, behind, bound_eq, first_rewrites, rises};
-ghost use Rattle.part_form.specs.Stated.{held_entries, told_part};
+ghost use Rattle.part_form.specs.Stated.{held_entries, part_of};
 
 use crate::entries::StatedEntry;
 use crate::fault::MergeFault;
@@ -24,7 +24,7 @@ pub struct MergedText {
 /// `NotLast` where the last one ends before the last name; else `TooMany` where more than 64 bits would count the names
 /// or classes.
 pub fn merged_text(alloc: Global, parts: List<StatedPart>) -> Result<MergedText, MergeFault>
-    ensures { IsMerged (map told_part parts) result }
+    ensures { IsMerged (map part_of parts) result }
 {
     let rewrites = first_rewrites(parts.items());
     if let Some(fault) = apart(rewrites, parts.items()) {
@@ -50,7 +50,7 @@ pub fn merged_text(alloc: Global, parts: List<StatedPart>) -> Result<MergedText,
 
 /// How many rewrites a query may use, by the first report.
 fn first_rewrites(parts: &[StatedPart]) -> u64
-    ensures { result ≡ first_rewrites (map told_part parts.now) }
+    ensures { result ≡ first_rewrites (map part_of parts.now) }
 {
     match parts.first() {
         Some(part) => part.rewrites,
@@ -60,7 +60,7 @@ fn first_rewrites(parts: &[StatedPart]) -> u64
 
 /// Why the reports aren't those of all parts, in order.
 fn apart(rewrites: u64, parts: &[StatedPart]) -> Option<MergeFault>
-    ensures { result ≡ apart_from 0 rewrites (Some None) (map told_part parts.now) }
+    ensures { result ≡ apart_from 0 rewrites (Some None) (map part_of parts.now) }
 {
     let mut next = Some(None);
     for (i, part) in parts.iter().enumerate() {

@@ -2,7 +2,7 @@
 
 ghost use Rattle.std.specs.Prelude.{◌≡◌, List, map, option_map, IfOk, Some};
 ghost use Rattle.serde_json.specs.View.{view as data_of};
-ghost use Rattle.part_form.specs.Stated.{bound_at, bound_of, number_at, part_in, part_stated, part_with, told_entry, told_part};
+ghost use Rattle.part_form.specs.Stated.{bound_at, bound_of, number_at, part_in, part_stated, part_with, entry_of, part_of};
 
 use crate::entries::{StatedEntry, stated_entries};
 use crate::places::name_of;
@@ -25,7 +25,7 @@ pub struct StatedPart {
 
 /// The report of a part that a file's octets are, or `None` where they are none.
 pub fn read_part(alloc: Global, octets: &[u8]) -> Result<Option<StatedPart>, NoMemory>
-    ensures { IfOk result (λ found. option_map told_part found ≡ part_in octets.now) }
+    ensures { IfOk result (λ found. option_map part_of found ≡ part_in octets.now) }
 {
     match Value::from_slice(alloc, octets) {
         Ok(value) => stated_part(alloc, &value),
@@ -41,7 +41,7 @@ pub fn read_part(alloc: Global, octets: &[u8]) -> Result<Option<StatedPart>, NoM
 
 /// The report that an object tells.
 fn stated_part(alloc: Global, value: &Value) -> Result<Option<StatedPart>, NoMemory>
-    ensures { IfOk result (λ found. option_map told_part found ≡ part_stated (data_of value.now)) }
+    ensures { IfOk result (λ found. option_map part_of found ≡ part_stated (data_of value.now)) }
 {
     let Some(from) = bound_at(alloc, value, "from")? else {
         return Ok(None);
@@ -65,7 +65,7 @@ fn part_with(
     to: Option<Name>,
     entries: List<StatedEntry>,
 ) -> Option<StatedPart>
-    ensures { option_map told_part result ≡ part_with (data_of value.now) from to (map told_entry entries) }
+    ensures { option_map part_of result ≡ part_with (data_of value.now) from to (map entry_of entries) }
 {
     Some(StatedPart {
         classes: number_at(value, "classes")?,

@@ -22,7 +22,7 @@ use Rattle.part_form.specs.Merging.{apart, first_rewrites, all_entries, merged_o
 use Rattle.part_form.specs.PartText.{ClassedEntry}
 use Rattle.part_form.specs.Stated.{EntryStated, PartStated}
 use Rattle.part_form.specs.Written.{entry_read, part_read}
-use Rattle.part_form.proofs.FirstsTold.{flat_mapped, sum_mapped}
+use Rattle.part_form.proofs.HeldParts.{flat_mapped, sum_mapped}
 use Rattle.query_verdicts.specs.Carried.{whole_config}
 use Rattle.part_laws.specs.Part.{restricted, IsPart}
 use Rattle.part_reports.specs.Bounds.{is_within, parted_at}

@@ -9,7 +9,7 @@ use Rattle.config_load.specs.Sources.{ReadsFor}
 use Rattle.config_load.specs.declared.fault.LoadFault.{LoadFault}
 use Rattle.config_load.proofs.Answered.{Gives-answers, FailedWhereItCame-answers}
 use Rattle.config_load.proofs.Opens.{OpensNoOther-answers}
-use Rattle.part_form.specs.Stated.{PartStated, told_part}
+use Rattle.part_form.specs.Stated.{PartStated, part_of}
 use Rattle.part_form.specs.declared.stated.StatedPart.{StatedPart}
 use Rattle.part_form.specs.declared.fault.MergeFault.{MergeFault}
 use Rattle.part_form.specs.declared.fault.MergeFault.TheVariants as merge_faults
@@ -27,6 +27,7 @@ use Rattle.parts_run.specs.Outcome.{IsToldOf, TellsMerged, faults_status}
 use Rattle.parts_run.specs.Reading.{reports_read}
 use Rattle.parts_run.specs.Runs.{JobEnds}
 use Rattle.parts_run.specs.Words.{usage_line}
+use Rattle.parts_run.specs.declared.words.PartsJob.TheVariants.{Merge}
 
 -- ---- what is told of what was read says with its status whether out gets something
 
@@ -53,28 +54,28 @@ module _ (names : List (List ℕ)) (files : FilesOfRun) (ending : Ending)
   abbrev Read : Type 0
   Read = Result (List PartStated) (List ℕ)
 
-  ended : EndsOver {T = Read} [] (reports_read [] names) (TellsMerged names) files.told_after files.failed_before files.failed_after ending → JobEnds (Some names) files ending
+  ended : EndsOver {T = Read} [] (reports_read [] names) (TellsMerged names) files.told_after files.failed_before files.failed_after ending → JobEnds (Some (Merge names)) files ending
   ended ends =
       as_asked _ _ files ending (reading_says [] (TellsMerged names) ending (λ read. of_told names read ending) (reports_read [] names files.told_after)) ends
       (λ all. TellsAll-same files.told_before files.told_after all source.stays)
       (OpensNoOther-answers (reports_read [] names) files.told_before files.told_after source.opens)
 
   of_read : (read : Read) → Answers files.told_after (reports_read [] names) (let result : Result Read LoadFault = Ok read in result)
-      → TellsMerged names read ending ⊎ (ending ≡ no_memory) → JobEnds (Some names) files ending
+      → TellsMerged names read ending ⊎ (ending ≡ no_memory) → JobEnds (Some (Merge names)) files ending
   of_read read answers tells =
       ended (over_read [] (reports_read [] names) files.told_after files.failed_before files.failed_after ending (TellsMerged names) read
       (Gives-answers files.told_after (reports_read [] names) (Ok read) answers) tells)
 
   -- a run whose reports were read ends with what is told of them, or because memory ran out
-  pub over_reports : (parts : List StatedPart) → (let result : Result (List StatedPart) ReadFault = Ok parts in Answers files.told_after (reports_read [] names) (answered (map told_part) result))
-      → TellsMerged names (Ok (map told_part parts)) ending ⊎ (ending ≡ no_memory) → JobEnds (Some names) files ending
-  over_reports parts = of_read (Ok (map told_part parts))
+  pub over_reports : (parts : List StatedPart) → (let result : Result (List StatedPart) ReadFault = Ok parts in Answers files.told_after (reports_read [] names) (answered (map part_of) result))
+      → TellsMerged names (Ok (map part_of parts)) ending ⊎ (ending ≡ no_memory) → JobEnds (Some (Merge names)) files ending
+  over_reports parts = of_read (Ok (map part_of parts))
 
   -- a run whose reports weren't read ends by that, or because memory ran out
   pub over_unread : (fault : ReadFault)
-      → (let result : Result (List StatedPart) ReadFault = Err fault in Answers files.told_after (reports_read [] names) (answered (map told_part) result))
-      → (let result : Result (List StatedPart) ReadFault = Err fault in FailedAt files.failed_before files.failed_after (answered (map told_part) result))
-      → IsNotRead fault ending ⊎ (ending ≡ no_memory) → JobEnds (Some names) files ending
+      → (let result : Result (List StatedPart) ReadFault = Err fault in Answers files.told_after (reports_read [] names) (answered (map part_of) result))
+      → (let result : Result (List StatedPart) ReadFault = Err fault in FailedAt files.failed_before files.failed_after (answered (map part_of) result))
+      → IsNotRead fault ending ⊎ (ending ≡ no_memory) → JobEnds (Some (Merge names)) files ending
   over_unread (NotReport file) answers failed is = of_read (Err file) answers is
   over_unread (Load fault) answers failed is =
       let result : Result Read LoadFault = Err fault in

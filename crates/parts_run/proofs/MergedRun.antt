@@ -27,6 +27,7 @@ use Rattle.parts_run.specs.Outcome.{IsToldOf, Outcome, TellsMerged, faults_statu
 use Rattle.parts_run.specs.Reading.{report_or, reports_read}
 use Rattle.parts_run.specs.Runs.{EndsAsAsked, MergesParts, WritesReport}
 use Rattle.parts_run.specs.Words.{job_of}
+use Rattle.parts_run.specs.declared.words.PartsJob.{PartsJob}
 use Rattle.parts_run.proofs.ReportsRead.{behind_report}
 
 -- what is read of files that hold what is written of parts
@@ -88,4 +89,4 @@ merges_parts words files out err ending ends status is names job config rewrites
     tells outcome =
         subst (λ (reading : Reading (Result (List PartStated) (List ℕ))). OfReading [] (TellsMerged names) reading ending)
         (all_told config rewrites files.told_after [] names reports right each)
-        (subst (λ (asked : Option (List (List ℕ))). Outcome files.told_after asked ending) job outcome)
+        (subst (λ (asked : Option PartsJob). Outcome files.told_after asked ending) job outcome)

@@ -12,7 +12,7 @@ use Rattle.config_load.specs.declared.fault.LoadFault.TheVariants.{NoMemory}
 use Rattle.config_load.specs.declared.limits.Limits.{Limits}
 use Rattle.config_load.proofs.Follows.{Follows-same, Follows-bind}
 use Rattle.config_load.proofs.Sources.{ReadsFor-bind, HasAnswered-looked, HasAnswered-next, HasAnswered-passed, HasAnswered-told}
-use Rattle.part_form.specs.Stated.{PartStated, part_in, told_part}
+use Rattle.part_form.specs.Stated.{PartStated, part_in, part_of}
 use Rattle.part_form.specs.declared.stated.StatedPart.{StatedPart}
 use Rattle.parts_run.specs.Answered.{answered}
 use Rattle.parts_run.specs.Reading.{report_or, report_read, reports_read, with_report}
@@ -40,19 +40,19 @@ module _ (name : List ℕ) (limits : Limits) (largest : limits ≡ largest_limit
   -- the fault of a file that isn't read answers the reading of its report
   pub fault_answers : (fault : LoadFault) (result : Result StatedPart ReadFault) → IsErrAnd result (λ passed. passed ≡ Load fault)
       → (let answer : Result (List ℕ) LoadFault = Err fault in HasAnswered before after counts counts' (file_octets limits name) answer)
-      → HasAnswered before after counts counts' (report_read name) (answered told_part result)
+      → HasAnswered before after counts counts' (report_read name) (answered part_of result)
   fault_answers fault result is whole =
-      HasAnswered-passed (file_octets largest_limits name) (behind_octets name) fault (answered told_part result) (fault_answered told_part result fault is) (within (Err fault) whole)
+      HasAnswered-passed (file_octets largest_limits name) (behind_octets name) fault (answered part_of result) (fault_answered part_of result fault is) (within (Err fault) whole)
 
   -- what the octets of the file are answers the reading of its report
   pub octets_answer : (octets : List ℕ) (result : Result StatedPart ReadFault)
       → (let answer : Result (List ℕ) LoadFault = Ok octets in HasAnswered before after counts counts' (file_octets limits name) answer)
-      → AnswersOr NoMemory (answered told_part result) (Ok (report_or name (part_in octets)))
-      → HasAnswered before after counts counts' (report_read name) (answered told_part result)
+      → AnswersOr NoMemory (answered part_of result) (Ok (report_or name (part_in octets)))
+      → HasAnswered before after counts counts' (report_read name) (answered part_of result)
   octets_answer octets result whole answer =
       let said : Result (Result PartStated (List ℕ)) LoadFault = Ok (report_or name (part_in octets)) in
-      HasAnswered-next (file_octets largest_limits name) octets (behind_octets name) (answered told_part result) (within (Ok octets) whole)
-      (HasAnswered-told after counts' (λ (_ : LoadFault). NoMemory) said (answered told_part result) (λ _. tt) answer)
+      HasAnswered-next (file_octets largest_limits name) octets (behind_octets name) (answered part_of result) (within (Ok octets) whole)
+      (HasAnswered-told after counts' (λ (_ : LoadFault). NoMemory) said (answered part_of result) (λ _. tt) answer)
 
 -- ---- files, one after the other
 
@@ -63,8 +63,8 @@ module _ (parts : List PartStated) (name : List ℕ) (more : List (List ℕ)) wh
 
   module _ {before after : FilesTold} {counts counts' : List ℕ → ℕ} where
     stops : (fault : ReadFault)
-        → (let one : Result StatedPart ReadFault = Err fault in HasAnswered before after counts counts' (report_read name) (answered told_part one))
-        → (let all : Result (List StatedPart) ReadFault = Err fault in HasAnswered before after counts counts' (reports_read parts (name ∷ more)) (answered (map told_part) all))
+        → (let one : Result StatedPart ReadFault = Err fault in HasAnswered before after counts counts' (report_read name) (answered part_of one))
+        → (let all : Result (List StatedPart) ReadFault = Err fault in HasAnswered before after counts counts' (reports_read parts (name ∷ more)) (answered (map part_of) all))
     stops (NotReport file) a =
         let none : Result (Result (List PartStated) (List ℕ)) LoadFault = Ok (Err file) in
         HasAnswered-next (report_read name) (Err file) behind_report none a
@@ -76,11 +76,11 @@ module _ (parts : List PartStated) (name : List ℕ) (more : List (List ℕ)) wh
 
     -- a file whose report isn't read is the last
     pub stopped : (fault : ReadFault) (result : Result (List StatedPart) ReadFault) → IsErrAnd result (λ passed. passed ≡ fault)
-        → (let one : Result StatedPart ReadFault = Err fault in HasAnswered before after counts counts' (report_read name) (answered told_part one))
-        → HasAnswered before after counts counts' (reports_read parts (name ∷ more)) (answered (map told_part) result)
+        → (let one : Result StatedPart ReadFault = Err fault in HasAnswered before after counts counts' (report_read name) (answered part_of one))
+        → HasAnswered before after counts counts' (reports_read parts (name ∷ more)) (answered (map part_of) result)
     stopped fault (Ok value) is answer = absurd is
     stopped fault (Err passed) is answer =
-        subst (λ (f : ReadFault). let all : Result (List StatedPart) ReadFault = Err f in HasAnswered before after counts counts' (reports_read parts (name ∷ more)) (answered (map told_part) all))
+        subst (λ (f : ReadFault). let all : Result (List StatedPart) ReadFault = Err f in HasAnswered before after counts counts' (reports_read parts (name ∷ more)) (answered (map part_of) all))
         (sym is) (stops fault answer)
 
   -- behind a file with a report the reading goes on

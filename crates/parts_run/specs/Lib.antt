@@ -6,6 +6,7 @@ pub use Rattle.run_endings.specs.Runs as ProgramRuns
 pub use Rattle.run_endings.specs.Writing
 pub mod Words
 pub mod Reading
+pub mod PartTold
 pub mod Outcome
 pub mod Runs
 pub mod Answered

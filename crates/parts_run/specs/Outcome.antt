@@ -2,8 +2,11 @@
 use Rattle.std.specs.Prelude.{◌≡◌, ℕ, ◌-◌, Bool, List, [], length, codes, decimal, if◌then◌else◌, Option, Some, None, Result, Ok, Err}
 use Rattle.io_edges.specs.Counts.{Rose}
 use Rattle.io_edges.specs.Files.{FilesTold}
+use Rattle.config_load.specs.Conf.{conf_within}
 use Rattle.config_load.specs.Faults.{name_numbered}
+use Rattle.config_load.specs.Limits.{largest_limits}
 use Rattle.config_load.specs.Load.{ComesToFile}
+use Rattle.config_load.specs.Reading.{both, file_octets}
 use Rattle.config_load.specs.Refusal.{fields_line}
 use Rattle.part_form.specs.Merging.{IsMerged}
 use Rattle.part_form.specs.Stated.{PartStated}
@@ -14,8 +17,11 @@ use Rattle.run_endings.specs.Endings.{OfReading, with_output, without_output}
 use Rattle.run_endings.specs.declared.ending.Ending.{Ending}
 use Rattle.run_endings.specs.declared.status.Status.{Status}
 use Rattle.run_endings.specs.declared.status.Status.TheVariants.{Clean, Faults, Refused, Usage}
+use Rattle.parts_run.specs.PartTold.{PartFrom}
 use Rattle.parts_run.specs.Reading.{reports_read}
 use Rattle.parts_run.specs.Words.{usage_line}
+use Rattle.parts_run.specs.declared.words.PartsJob.{PartsJob}
+use Rattle.parts_run.specs.declared.words.PartsJob.TheVariants.{Merge, Part}
 
 -- the status of a report that has entries, or none
 abbrev pub faults_status : Bool → Status
@@ -54,16 +60,19 @@ abbrev pub TellsMerged : List (List ℕ) → Result (List PartStated) (List ℕ)
 TellsMerged files (Ok parts) ending = (answer : Result MergedText MergeFault) × IsMerged parts answer × IsToldOf files answer ending
 TellsMerged files (Err file) ending = ending ≡ refused_as file (codes "not-part-report")
 
--- what the words' job gives, by what is told of the files; no refusal is of a metadata file
-abbrev pub Outcome : FilesTold → Option (List (List ℕ)) → Ending → Type 0
+-- what the words' job gives, by what is told of the files; of `merge` no refusal is of a metadata file
+abbrev pub Outcome : FilesTold → Option PartsJob → Ending → Type 0
 Outcome told None ending = ending ≡ without_output Usage usage_line
-Outcome told (Some files) ending = OfReading [] (TellsMerged files) (reports_read [] files told) ending
+Outcome told (Some (Merge files)) ending = OfReading [] (TellsMerged files) (reports_read [] files told) ending
+Outcome told (Some (Part meta names limits)) ending = OfReading meta (PartFrom limits told names) (conf_within largest_limits meta told) ending
 
--- The job comes to the file: the files before it hold reports.
-abbrev pub JobComesTo : FilesTold → Option (List (List ℕ)) → List ℕ → Type 0
+-- The job comes to the file: for `merge` the files before it hold reports; `part` comes to the files of the configuration,
+-- and where they give one, to the file of the part's names.
+abbrev pub JobComesTo : FilesTold → Option PartsJob → List ℕ → Type 0
 JobComesTo told None file = ⊥
-JobComesTo told (Some files) file = ComesToFile (reports_read [] files) told file
+JobComesTo told (Some (Merge files)) file = ComesToFile (reports_read [] files) told file
+JobComesTo told (Some (Part meta names limits)) file = ComesToFile (both (conf_within largest_limits meta) (file_octets largest_limits names)) told file
 
 -- no count of a file rose to which the job comes
-abbrev pub NoJobReadFailed : FilesTold → Option (List (List ℕ)) → (List ℕ → ℕ) → (List ℕ → ℕ) → Type 0
+abbrev pub NoJobReadFailed : FilesTold → Option PartsJob → (List ℕ → ℕ) → (List ℕ → ℕ) → Type 0
 NoJobReadFailed told job before after = (file : List ℕ) → JobComesTo told job file → Rose (before file) (after file) → ⊥

@@ -2,7 +2,7 @@
 
 ghost use Rattle.std.specs.Prelude.{◌≡◌, ◌⊎◌, Ok, Err, map};
 ghost use Rattle.config_load.specs.Faults.{name_numbered};
-ghost use Rattle.part_form.specs.Stated.{told_part};
+ghost use Rattle.part_form.specs.Stated.{part_of};
 ghost use Rattle.run_endings.specs.Endings.{no_memory};
 ghost use Rattle.parts_run.specs.Outcome.{IsToldOf, TellsMerged, fault_code, fault_file, refused_as, with_merged};
 
@@ -13,7 +13,7 @@ use std::alloc::Global;
 
 /// What is told of the reports of the files of these names: their text merged, or why they aren't merged.
 pub(crate) fn merged_ending(alloc: Global, names: &[Text], parts: List<StatedPart>) -> Ending
-    ensures { TellsMerged names.now (Ok (map told_part parts)) result ⊎ (result ≡ no_memory) }
+    ensures { TellsMerged names.now (Ok (map part_of parts)) result ⊎ (result ≡ no_memory) }
 {
     match merged_text(alloc, parts) {
         Ok(merged) => with_merged(merged),

@@ -3,7 +3,7 @@ use Rattle.parts_run.proofs.ReportsRead.{fault_answers, octets_answer}
 use Rattle.std.proofs.Common.{List, ℕ, Ok, Err, subst}
 use Rattle.dns_data.specs.Answers.{AnswersOr}
 use Rattle.config_load.specs.declared.fault.LoadFault.TheVariants.{NoMemory}
-use Rattle.part_form.specs.Stated.{part_in, told_part}
+use Rattle.part_form.specs.Stated.{part_in, part_of}
 use Rattle.parts_run.specs.Answered.{answered}
 use Rattle.parts_run.specs.Reading.{report_or}
 use Rattle.parts_run.proofs.reading.read_report.Goals as goal
@@ -27,4 +27,4 @@ returns g c =
     octets_answer c.args.name.now c.largest.result c.largest.ensures c.in_ok-octets.octets c.report_in.result
     (file_answered c.largest.result c.args.name.now told after counts counts' (Ok c.in_ok-octets.octets) c.in_ok-octets.ensures.gives c.in_ok-octets.ensures.order c.in_ok-octets.ensures.cause
     c.read_file.ensures.stays c.read_file.ensures.opens c.read_file.ensures.never_fall)
-    (subst (λ (octets : List ℕ). AnswersOr NoMemory (answered told_part c.report_in.result) (Ok (report_or c.args.name.now (part_in octets)))) c.items.ensures c.report_in.ensures)
+    (subst (λ (octets : List ℕ). AnswersOr NoMemory (answered part_of c.report_in.result) (Ok (report_or c.args.name.now (part_in octets)))) c.items.ensures c.report_in.ensures)

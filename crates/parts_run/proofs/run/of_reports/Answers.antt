@@ -1,6 +1,7 @@
 use Rattle.std.proofs.Common.{◌≡◌, Some, subst, sym}
 use Rattle.run_endings.specs.Runs.{FilesOfRun, files_of}
 use Rattle.parts_run.specs.Runs.{JobEnds}
+use Rattle.parts_run.specs.declared.words.PartsJob.TheVariants.{Merge}
 use Rattle.parts_run.proofs.Endings.{over_reports, over_unread}
 use Rattle.parts_run.proofs.run.of_reports.Goals as goal
 
@@ -13,7 +14,7 @@ returns-in-Ok g c =
       failed_before = F.faults c.args.files.now;
       failed_after = c.let_go_of_all.ensures.faults i;
     } in
-    subst (λ (files : FilesOfRun). JobEnds (Some c.args.names.now) files c.merged_ending.result) (sym same)
+    subst (λ (files : FilesOfRun). JobEnds (Some (Merge c.args.names.now)) files c.merged_ending.result) (sym same)
     (over_reports c.args.names.now _ c.merged_ending.result c.read_reports.ensures.source c.in-Ok.parts c.in-Ok.ensures.answers c.merged_ending.ensures)
 
 pub returns-in-Err : goal.returns-in-Err

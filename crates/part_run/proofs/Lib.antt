@@ -1,0 +1,4 @@
+mod EntriesClassed
+mod OwnTree
+mod PartReported
+mod TextMade
