@@ -19,7 +19,8 @@ from typing import Dict, List, Optional, Sequence, Union
 
 TOP = pathlib.Path(__file__).resolve().parent.parent
 BASH = "bash"
-PROGRAMS = ("groot", "groot-map", "groot-large", "groot-parts", "groot-metadata", "groot-gate", "groot-changed", "groot-changes")
+PROGRAMS = ("groot", "groot-map", "groot-large", "groot-parts", "groot-metadata", "groot-gate", "groot-changed", "groot-changes",
+            "groot-split", "groot-jobs")
 Word = Union[str, pathlib.Path]
 
 
@@ -138,7 +139,8 @@ def completed_in_zsh(prefix: pathlib.Path) -> List[str]:
     for service, line, wish in (("groot-map", "groot-map", "servers"), ("groot-parts", "groot-parts", "merge"), ("groot", "groot ask meta", "CAA"), ("groot", "groot check", "--classes"),
                                 ("groot-large", "groot-large scope", "metadata"), ("groot-gate", "groot-gate", "--published"),
                                 ("groot-metadata", "groot-metadata", "--catalog"), ("groot-changed", "groot-changed", "--since"),
-                                ("groot-changes", "groot-changes", "--below")):
+                                ("groot-changes", "groot-changes", "--below"), ("groot-split", "groot-split", "--records"),
+                                ("groot-jobs", "groot-jobs", "--engine")):
         command: List[Word] = ["zsh", "-f", TOP / ".ci/completed.zsh", zsh_completion(prefix), service, *line.split()]
         if wish not in output(command):
             faults.append(f"zsh: after `{line}` nothing with {wish} is completed")

@@ -1,4 +1,5 @@
-# Completion of groot, groot-large, groot-map, groot-parts, groot-metadata, groot-gate, groot-changed and groot-changes in bash.
+# Completion of groot, groot-large, groot-map, groot-parts, groot-metadata, groot-gate, groot-changed, groot-changes, groot-split
+# and groot-jobs in bash.
 
 # The options of a command.
 _groot_options() {
@@ -127,8 +128,36 @@ _groot_parts() {
     local word=${COMP_WORDS[COMP_CWORD]}
     COMPREPLY=()
     case $COMP_CWORD in
-        1) mapfile -t COMPREPLY < <(compgen -W "merge" -- "$word") ;;
+        1) mapfile -t COMPREPLY < <(compgen -W "part merge" -- "$word") ;;
         *) _groot_files "$word" ;;
+    esac
+}
+
+_groot_split() {
+    local word=${COMP_WORDS[COMP_CWORD]} before=${COMP_WORDS[COMP_CWORD - 1]}
+    COMPREPLY=()
+    if [[ $before == --parts || $before == --records ]]; then
+        return
+    elif [[ $word == -* ]]; then
+        mapfile -t COMPREPLY < <(compgen -W "--parts --records --map --version --help" -- "$word")
+    else
+        _groot_files "$word"
+    fi
+}
+
+_groot_jobs() {
+    local word=${COMP_WORDS[COMP_CWORD]} before=${COMP_WORDS[COMP_CWORD - 1]}
+    COMPREPLY=()
+    case $before in
+        --engine) mapfile -t COMPREPLY < <(compgen -W "xargs parallel slurm" -- "$word") ;;
+        --at-once | --tries | --memory) ;;
+        *)
+            if [[ $word == -* ]]; then
+                mapfile -t COMPREPLY < <(compgen -W "--engine --at-once --tries --memory --resume --version --help" -- "$word")
+            else
+                _groot_files "$word"
+            fi
+            ;;
     esac
 }
 
@@ -139,3 +168,5 @@ complete -F _groot_metadata groot-metadata
 complete -F _groot_gate groot-gate
 complete -F _groot_changed groot-changed
 complete -F _groot_changes groot-changes
+complete -F _groot_split groot-split
+complete -F _groot_jobs groot-jobs

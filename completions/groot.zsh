@@ -1,5 +1,6 @@
-#compdef groot groot-large groot-map groot-parts groot-metadata groot-gate groot-changed groot-changes
-# Completion of groot, groot-large, groot-map, groot-parts, groot-metadata, groot-gate, groot-changed and groot-changes in zsh; it is installed as _groot.
+#compdef groot groot-large groot-map groot-parts groot-metadata groot-gate groot-changed groot-changes groot-split groot-jobs
+# Completion of groot, groot-large, groot-map, groot-parts, groot-metadata, groot-gate, groot-changed, groot-changes, groot-split and groot-jobs in zsh;
+# it is installed as _groot.
 
 _groot_commands=(
     'check:report every fault that some query shows'
@@ -84,7 +85,7 @@ _groot() {
     case $service in
         groot | groot-large) _groot_words ;;
         groot-map) _groot_map ;;
-        groot-parts) _arguments '1:word:((merge\:"put the reports of parts together"))' '*:report:_files' ;;
+        groot-parts) _arguments '1:word:((part\:"check a part of a network" merge\:"put the reports of parts together"))' '*:file:_files' ;;
         groot-metadata) _arguments $_groot_of_metadata '--output[the metadata file]:file:_files' $_groot_about ;;
         groot-gate)
             _arguments '--old[findings that are known]:findings:_files' \
@@ -101,6 +102,15 @@ _groot() {
         groot-changes)
             _arguments '--without-soa[do not ask for SOA]' '--below[ask for names at or below this one alone]:name:' \
                 $_groot_about '1:metadata before:_files' '2:metadata after:_files'
+            ;;
+        groot-split)
+            _arguments '--parts[how many parts]:number:' '--records[about how many records a part has of its own]:number:' \
+                '--map[the program groot-map]:program:_files' $_groot_about '1:metadata:_files' '2:folder:_files -/'
+            ;;
+        groot-jobs)
+            _arguments '--engine[what runs the jobs]:engine:(xargs parallel slurm)' '--at-once[at most so many jobs at a time]:number:' \
+                '--tries[how often a job is started that fails]:number:' '--memory[with slurm, the memory of a job in MB]:number:' \
+                '--resume[keep the reports that are there]' $_groot_about '1:metadata:_files' '2:folder:_files -/'
             ;;
     esac
 }
