@@ -31,10 +31,10 @@ use Rattle.plain_resolver.specs.Begun.{most_states, server_settles}
 use Rattle.plain_resolver.specs.FromServer.{AreAsked, HasMoreAsked, asked_at}
 use Rattle.plain_resolver.specs.WalkEnds.{last_state, zone_ends_at, zone_ends_of}
 use Rattle.plain_resolver.specs.declared.walk_end.ZoneEnd.{ZoneEnd}
-use Rattle.alias_ends.specs.Aliases.{FollowsWalks, is_ended_at, other_types, target_told}
-use Rattle.alias_ends.specs.Known.{ends_in, is_at, leaf_of, some_at, told_by, unless_many, walks_in, word_at}
-use Rattle.alias_ends.proofs.ToldAliases.{any_ended, first_none, no_word, told_alike, told_so}
-use Rattle.alias_ends.proofs.TypesAlike.{is_told, last_behind}
+use Rattle.alias_ends.specs.Aliases.{FollowsWalks, is_ended_at, other_types, target_word}
+use Rattle.alias_ends.specs.Known.{ends_in, is_at, leaf_of, some_at, word_by_ends, unless_many, walks_in, word_at}
+use Rattle.alias_ends.proofs.AliasWords.{any_ended, first_none, no_word, same_word, walks_so}
+use Rattle.alias_ends.proofs.TypesAlike.{is_of_zone, last_behind}
 
 -- what was found ends a walk
 abbrev is_last : Found → Bool
@@ -50,55 +50,55 @@ module _ (setting : Setting) where
 
   module _ (state : State) where
     -- the branch doesn't end in what a zone tells, or what its server finds ends a walk
-    abbrev Told : Branch → Type 0
-    Told (Go hop to) = Unit {0}
-    Told (End hop leaf) = is_authoritative leaf ≡ true → Rests state.server state.name
+    abbrev RestsAtEnd : Branch → Type 0
+    RestsAtEnd (Go hop to) = Unit {0}
+    RestsAtEnd (End hop leaf) = is_authoritative leaf ≡ true → Rests state.server state.name
 
-    delegated_told : (cut : Cut) (below : Option Zone) → Told (delegated state cut below)
-    delegated_told cut None = λ told. cc
-    delegated_told cut (Some below) = by (is_prefix cut.cut below.origin) where
-      by : (b : Bool) → Told (if b then Go (Refer cut) (record state { server = cut.ns; cut = length cut.cut; zone = Some below.origin }) else End (Some (Refer cut)) (Lame cut.ns))
+    delegated_rests : (cut : Cut) (below : Option Zone) → RestsAtEnd (delegated state cut below)
+    delegated_rests cut None = λ told. cc
+    delegated_rests cut (Some below) = by (is_prefix cut.cut below.origin) where
+      by : (b : Bool) → RestsAtEnd (if b then Go (Refer cut) (record state { server = cut.ns; cut = length cut.cut; zone = Some below.origin }) else End (Some (Refer cut)) (Lame cut.ns))
       by true = tt
       by false = λ told. cc
 
-    referred_told : (cut : Cut) → Told (referred setting state cut)
-    referred_told cut =
+    referred_rests : (cut : Cut) → RestsAtEnd (referred setting state cut)
+    referred_rests cut =
         by (is_configured setting.config cut.ns) (may_follow setting.config cut setting.followed)
-        (delegated state cut (nearest_of setting.config cut.ns state.name)) (delegated_told cut (nearest_of setting.config cut.ns state.name))
+        (delegated state cut (nearest_of setting.config cut.ns state.name)) (delegated_rests cut (nearest_of setting.config cut.ns state.name))
       where
-        by : (configured follow : Bool) (on : Branch) → Told on
-            → Told (if not configured then End (Some (Refer cut)) (Unhosted cut.ns) else (if not follow then End (Some (Refer cut)) (NoAddress cut.ns) else on))
+        by : (configured follow : Bool) (on : Branch) → RestsAtEnd on
+            → RestsAtEnd (if not configured then End (Some (Refer cut)) (Unhosted cut.ns) else (if not follow then End (Some (Refer cut)) (NoAddress cut.ns) else on))
         by true true on is = is
         by true false on is = λ told. cc
         by false follow on is = λ told. cc
 
     module _ (zone : Zone) (nearest : nearest_of setting.config state.server state.name ≡ Some zone) where
-      after_told : (finds : Found) → found zone state.name rr_types.A ≡ finds → AllByRecursion Told (after_lookup setting state zone.origin finds)
-      after_told (found_as.Answer rdata) is = ((λ told. (zone, nearest, ap is_last is)), tt)
-      after_told found_as.NoData is = ((λ told. (zone, nearest, ap is_last is)), tt)
-      after_told found_as.NxDomain is = ((λ told. (zone, nearest, ap is_last is)), tt)
-      after_told (found_as.Referral cut names) is =
-          all_images (λ (ns : Labels). referred setting state (cut_at state zone cut ns)) Told names (λ ns has. referred_told (cut_at state zone cut ns))
-      after_told (found_as.Rewrite by_dname owner to) is = by (nat_lt state.used setting.rewrites) where
+      after_rests : (finds : Found) → found zone state.name rr_types.A ≡ finds → AllByRecursion RestsAtEnd (after_lookup setting state zone.origin finds)
+      after_rests (found_as.Answer rdata) is = ((λ told. (zone, nearest, ap is_last is)), tt)
+      after_rests found_as.NoData is = ((λ told. (zone, nearest, ap is_last is)), tt)
+      after_rests found_as.NxDomain is = ((λ told. (zone, nearest, ap is_last is)), tt)
+      after_rests (found_as.Referral cut names) is =
+          all_images (λ (ns : Labels). referred setting state (cut_at state zone cut ns)) RestsAtEnd names (λ ns has. referred_rests (cut_at state zone cut ns))
+      after_rests (found_as.Rewrite by_dname owner to) is = by (nat_lt state.used setting.rewrites) where
         on : Labels → Branch
         on server =
             Go (Rewrite (place_in state zone owner) by_dname to)
             (arrived setting.config to (state.carried && by_dname) (state.used + 1) (Some (place_in state zone owner)) server)
 
-        by : (left : Bool) → AllByRecursion Told (if left then map on (servers_after setting.config state to) else End None (Limit (place_in state zone owner)) ∷ [])
-        by true = all_images on Told (servers_after setting.config state to) (λ server has. tt)
+        by : (left : Bool) → AllByRecursion RestsAtEnd (if left then map on (servers_after setting.config state to) else End None (Limit (place_in state zone owner)) ∷ [])
+        by true = all_images on RestsAtEnd (servers_after setting.config state to) (λ server has. tt)
         by false = ((λ told. cc), tt)
-      after_told (found_as.TooLong owner) is = by (nat_lt state.used setting.rewrites) where
-        by : (left : Bool) → AllByRecursion Told (if left then End None (Overlong (place_in state zone owner)) ∷ [] else End None (Limit (place_in state zone owner)) ∷ [])
+      after_rests (found_as.TooLong owner) is = by (nat_lt state.used setting.rewrites) where
+        by : (left : Bool) → AllByRecursion RestsAtEnd (if left then End None (Overlong (place_in state zone owner)) ∷ [] else End None (Limit (place_in state zone owner)) ∷ [])
         by true = ((λ told. cc), tt)
         by false = ((λ told. cc), tt)
 
-    in_told : (zone : Option Zone) → nearest_of setting.config state.server state.name ≡ zone → AllByRecursion Told (in_zone setting rr_types.A state zone)
-    in_told None nearest = ((λ told. cc), tt)
-    in_told (Some zone) nearest = after_told zone nearest (found zone state.name rr_types.A) refl
+    zone_rests : (zone : Option Zone) → nearest_of setting.config state.server state.name ≡ zone → AllByRecursion RestsAtEnd (in_zone setting rr_types.A state zone)
+    zone_rests None nearest = ((λ told. cc), tt)
+    zone_rests (Some zone) nearest = after_rests zone nearest (found zone state.name rr_types.A) refl
 
-    next_told : AllByRecursion Told (next setting rr_types.A state)
-    next_told = in_told (nearest_of setting.config state.server state.name) refl
+    next_rests : AllByRecursion RestsAtEnd (next setting rr_types.A state)
+    next_rests = zone_rests (nearest_of setting.config state.server state.name) refl
 
     -- where what the server finds ends a walk, it is the only end
     only_end : (zone : Zone) (finds : Found) → is_last finds ≡ true → after_lookup setting state zone.origin finds ≡ End None (leaf_of finds) ∷ []
@@ -140,7 +140,7 @@ module _ (setting : Setting) where
           record {
             last = state;
             is = sym (ap (λ (w : Walk). last_state w.states) ends.made);
-            rests = item (Told state) (next setting rr_types.A state) number (End ends.hop ends.leaf) (next_told state) ends.is (ap (λ (w : Walk). is_authoritative w.leaf) ends.made ∙ told);
+            rests = item (RestsAtEnd state) (next setting rr_types.A state) number (End ends.hop ends.leaf) (next_rests state) ends.is (ap (λ (w : Walk). is_authoritative w.leaf) ends.made ∙ told);
           }
 
   along_rests : (query : Labels) (numbers : List ℕ) (walk : Walk) → walk_along setting query rr_types.A numbers ≡ Some walk → is_authoritative walk.leaf ≡ true → RestsIn walk
@@ -189,7 +189,7 @@ module _ (setting : Setting) where
     ends_once rests =
         ap (λ (walks : List Walk). option_map (flat_map zone_ends_of) (unless_many walks))
         (once (most_states setting rr_types.A name (Some server) - 0) settled)
-        ∙ told (leaf_of (found rests.0 name rr_types.A)) (is_told (found rests.0 name rr_types.A))
+        ∙ told (leaf_of (found rests.0 name rr_types.A)) (is_of_zone (found rests.0 name rr_types.A))
       where
         state : State
         state = asked_at setting server name
@@ -212,17 +212,17 @@ module _ (setting : Setting) where
             → Some (zone_ends_of (walk leaf) ++ []) ≡ Some (record { server = server; name = name } ∷ [])
         told leaf is = ap (λ (b : Bool). Some ((if b then record { server = server; name = name } ∷ [] else []) ++ [])) is
 
--- nothing is told of a target for which some walk from the top servers asks the server last
-pub none_told : (setting : Setting) (server name : Labels) → some_at server name (ends_in setting rr_types.A None name) ≡ true → target_told (walks_in setting) server name ≡ None
-none_told setting server name at = by (walks_in setting None name rr_types.A) (told_so setting None name rr_types.A) refl at where
+-- there is no word for a target for which some walk from the top servers asks the server last
+pub none_there : (setting : Setting) (server name : Labels) → some_at server name (ends_in setting rr_types.A None name) ≡ true → target_word (walks_in setting) server name ≡ None
+none_there setting server name at = by (walks_in setting None name rr_types.A) (walks_so setting None name rr_types.A) refl at where
   by : (walks : Option (List Walk)) → FollowsWalks (HasMoreAsked setting name rr_types.A None) (AreAsked setting name rr_types.A None) walks
-      → walks_in setting None name rr_types.A ≡ walks → some_at server name (option_map (flat_map zone_ends_of) walks) ≡ true → target_told (walks_in setting) server name ≡ None
+      → walks_in setting None name rr_types.A ≡ walks → some_at server name (option_map (flat_map zone_ends_of) walks) ≡ true → target_word (walks_in setting) server name ≡ None
   by None follows is at = cc
   by (Some walks) follows is at =
       let rests = some_rests setting server name walks follows.1 (sym (any_ended server name walks) ∙ at) in
       let tops = flat_map zone_ends_of walks in
       let end : ZoneEnd = record { server = server; name = name } in
-      sym (told_alike setting server name)
-      ∙ (λ i. told_by setting.config (ends_once setting server name rests i) (option_map (flat_map zone_ends_of) (is i)))
+      sym (same_word setting server name)
+      ∙ (λ i. word_by_ends setting.config (ends_once setting server name rests i) (option_map (flat_map zone_ends_of) (is i)))
       ∙ first_none (word_at setting.config (end ∷ []) tops)
       (λ rtype. no_word setting.config (end ∷ []) tops rtype (ap (λ (b : Bool). b && true) at)) other_types

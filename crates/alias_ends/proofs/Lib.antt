@@ -1,4 +1,4 @@
 mod EndsAtOnce
 pub mod KnownAnswers
-pub mod ToldAliases
+pub mod AliasWords
 mod TypesAlike

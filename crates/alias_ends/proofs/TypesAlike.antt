@@ -144,18 +144,18 @@ last_behind state states to rest is = ap (λ (all : List State). last_state (sta
   more = ap (slice_get (state ∷ to ∷ rest)) (let e : length (state ∷ to ∷ rest) - 1 ≡ suc (length (to ∷ rest) - 1) = omega arith in e)
 
 -- what was found is told by a zone
-pub is_told : (found : Found) → is_authoritative (leaf_of found) ≡ true
-is_told (found_as.Answer rdata) = refl
-is_told found_as.NoData = refl
-is_told found_as.NxDomain = refl
-is_told (found_as.Referral cut names) = refl
-is_told (found_as.Rewrite by_dname owner to) = refl
-is_told (found_as.TooLong owner) = refl
+pub is_of_zone : (found : Found) → is_authoritative (leaf_of found) ≡ true
+is_of_zone (found_as.Answer rdata) = refl
+is_of_zone found_as.NoData = refl
+is_of_zone found_as.NxDomain = refl
+is_of_zone (found_as.Referral cut names) = refl
+is_of_zone (found_as.Rewrite by_dname owner to) = refl
+is_of_zone (found_as.TooLong owner) = refl
 
 -- and so is what a zone has for the name
-pub is_told_in : (t : RrType) (name : Labels) (zone : Option Zone) → is_authoritative (leaf_in t name zone) ≡ true
-is_told_in t name None = refl
-is_told_in t name (Some zone) = is_told (answered zone name t (deciding zone name))
+pub is_of_zone_in : (t : RrType) (name : Labels) (zone : Option Zone) → is_authoritative (leaf_in t name zone) ≡ true
+is_of_zone_in t name None = refl
+is_of_zone_in t name (Some zone) = is_of_zone (answered zone name t (deciding zone name))
 
 some_mapped : {X Y : Type 0} (f : X → Y) (o : Option X) → is_some (option_map f o) ≡ is_some o
 some_mapped f None = refl
@@ -163,13 +163,13 @@ some_mapped f (Some x) = refl
 
 module _ (setting : Setting) (t : RrType) (other : type_eq t rr_types.Cname ≡ false) where
   -- what a zone tells with the type in the state
-  abbrev told_in : State → Leaf
-  told_in state = leaf_in t state.name (nearest_of setting.config state.server state.name)
+  abbrev leaf_by_zone : State → Leaf
+  leaf_by_zone state = leaf_in t state.name (nearest_of setting.config state.server state.name)
 
   -- how a walk ends with the type that ends so with type A
   abbrev leaf_as : Option State → Leaf → Leaf
   leaf_as None leaf = Outside
-  leaf_as (Some state) leaf = if is_authoritative leaf then told_in state else leaf
+  leaf_as (Some state) leaf = if is_authoritative leaf then leaf_by_zone state else leaf
 
   -- a walk of type A with the type
   abbrev pub walk_as : Walk → Walk
@@ -186,7 +186,7 @@ module _ (setting : Setting) (t : RrType) (other : type_eq t rr_types.Cname ≡ 
 
   branch_as : (state : State) (is_last : Bool) (on along : State → Option Walk) → ((to : State) → along to ≡ option_map walk_as (on to))
       → ((to : State) (later : Walk) → on to ≡ Some later → (rest : List State) × (later.states ≡ to ∷ rest)) → (branch : Option Branch)
-      → branched state is_last along (option_map (branch_with (told_in state)) branch) ≡ option_map walk_as (branched state is_last on branch)
+      → branched state is_last along (option_map (branch_with (leaf_by_zone state)) branch) ≡ option_map walk_as (branched state is_last on branch)
   branch_as state is_last on along same begins None = refl
   branch_as state is_last on along same begins (Some (Go hop to)) = ap (option_map (led_on state hop)) (same to) ∙ goes_as state hop to (on to) (begins to)
   branch_as state true on along same begins (Some (End hop leaf)) = refl
@@ -198,7 +198,7 @@ module _ (setting : Setting) (t : RrType) (other : type_eq t rr_types.Cname ≡ 
   from_as (number ∷ numbers) state =
       ap (branched state (length numbers == 0) (walk_from setting t numbers))
       (ap (λ (branches : List Branch). slice_get branches number) (next_alike setting state t other)
-      ∙ slice_get-map (branch_with (told_in state)) (next setting rr_types.A state) number)
+      ∙ slice_get-map (branch_with (leaf_by_zone state)) (next setting rr_types.A state) number)
       ∙ branch_as state (length numbers == 0) (walk_from setting rr_types.A numbers) (walk_from setting t numbers) (from_as numbers)
       (λ to later. first_state setting rr_types.A numbers to later) (slice_get (next setting rr_types.A state) number)
 
@@ -252,7 +252,7 @@ module _ (setting : Setting) (t : RrType) (other : type_eq t rr_types.Cname ≡ 
   kept : (leaf : Leaf) (rest : List Leaf) (b : Bool) → is_authoritative leaf ≡ b → filter is_authoritative (leaf ∷ rest) ≡ cond b (leaf ∷ filter is_authoritative rest) (filter is_authoritative rest)
   kept leaf rest b e = ap (λ (c : Bool). cond c (leaf ∷ filter is_authoritative rest) (filter is_authoritative rest)) e
 
-  -- the ends that a zone tells are those that are told with the type where walks of type A end so
+  -- the ends that a zone tells are those that it tells with the type where walks of type A end so
   pub leaves_as : (walks : List Walk) → zone_leaves (map walk_as walks) ≡ map (leaf_at setting.config t) (flat_map zone_ends_of walks)
   leaves_as [] = refl
   leaves_as (walk ∷ walks) = by (last_state walk.states) (leaves_as walks) where
@@ -260,11 +260,11 @@ module _ (setting : Setting) (t : RrType) (other : type_eq t rr_types.Cname ≡ 
     rest = map (λ (w : Walk). w.leaf) (map walk_as walks)
 
     at : (state : State) (b : Bool) → is_authoritative walk.leaf ≡ b → filter is_authoritative rest ≡ map (leaf_at setting.config t) (flat_map zone_ends_of walks)
-        → filter is_authoritative ((if b then told_in state else walk.leaf) ∷ rest)
+        → filter is_authoritative ((if b then leaf_by_zone state else walk.leaf) ∷ rest)
         ≡ map (leaf_at setting.config t) ((if b then record { server = state.server; name = state.name } ∷ [] else []) ++ flat_map zone_ends_of walks)
     at state true e same =
-        kept (told_in state) rest true (is_told_in t state.name (nearest_of setting.config state.server state.name))
-        ∙ ap (λ (leaves : List Leaf). told_in state ∷ leaves) same
+        kept (leaf_by_zone state) rest true (is_of_zone_in t state.name (nearest_of setting.config state.server state.name))
+        ∙ ap (λ (leaves : List Leaf). leaf_by_zone state ∷ leaves) same
     at state false e same = kept walk.leaf rest false e ∙ same
 
     by : (last : Option State) → filter is_authoritative rest ≡ map (leaf_at setting.config t) (flat_map zone_ends_of walks)

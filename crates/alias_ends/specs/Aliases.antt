@@ -13,7 +13,7 @@ use Rattle.net_model.specs.Step.{Setting}
 use Rattle.plain_resolver.specs.FromServer.{AreAsked, HasMoreAsked}
 use Rattle.plain_resolver.specs.WalkEnds.{zone_ends_of}
 use Rattle.name_ends.specs.Ends.{most_walks}
-use Rattle.alias_ends.specs.declared.words.AliasTold.{AliasTold}
+use Rattle.alias_ends.specs.declared.words.TargetWord.{TargetWord}
 use Rattle.alias_ends.specs.declared.words.AliasWord.{AliasWord}
 use Rattle.alias_ends.specs.declared.words.AliasWord.TheVariants.{Differs, Elsewhere}
 
@@ -27,14 +27,14 @@ FollowsWalks HasMore AreAll None = HasMore most_walks
 -- The walks of each name with each type: those that begin at the top servers where no server is named, and else those that
 -- begin at that server, in the state in which it is asked for the name with no rewrite used; none to tell where there are
 -- more than are followed.
-abbrev pub WalksTold : Type 0
-WalksTold = Option Labels → Labels → RrType → Option (List Walk)
+abbrev pub WalksByName : Type 0
+WalksByName = Option Labels → Labels → RrType → Option (List Walk)
 
 -- they are those walks
-abbrev pub AreWalksTold : Setting → WalksTold → Type 0
-AreWalksTold setting told =
+abbrev pub AreWalksByName : Setting → WalksByName → Type 0
+AreWalksByName setting walks =
     (server : Option Labels) (name : Labels) (rtype : RrType)
-    → FollowsWalks (HasMoreAsked setting name rtype server) (AreAsked setting name rtype server) (told server name rtype)
+    → FollowsWalks (HasMoreAsked setting name rtype server) (AreAsked setting name rtype server) (walks server name rtype)
 
 -- ---- where an alias is found
 
@@ -43,10 +43,10 @@ abbrev pub is_ended_at : Labels → Labels → Walk → Bool
 is_ended_at server name walk = list_any (λ end. name_eq server end.server && name_eq name end.name) (zone_ends_of walk)
 
 -- a query for the alias of the name finds it at the server
-abbrev pub is_found : WalksTold → Labels → Labels → Bool
-is_found told server name = option_map_or (list_any (is_ended_at server name)) (told None name rr_types.Cname) false
+abbrev pub is_found : WalksByName → Labels → Labels → Bool
+is_found walks server name = option_map_or (list_any (is_ended_at server name)) (walks None name rr_types.Cname) false
 
--- ---- what is told of them
+-- ---- the words for them
 
 -- the ends of walks that a zone tells: an answer, no data, no such name
 abbrev pub zone_leaves : List Walk → List Leaf
@@ -78,18 +78,18 @@ other_types =
     ∷ rr_types.Dname ∷ rr_types.Caa ∷ []
 
 -- the word for a type, of a target at a server
-abbrev pub type_word : WalksTold → Labels → Labels → RrType → Option AliasWord
-type_word told server target rtype = walks_word (told (Some server) target rtype) (told None target rtype)
+abbrev pub type_word : WalksByName → Labels → Labels → RrType → Option AliasWord
+type_word walks server target rtype = walks_word (walks (Some server) target rtype) (walks None target rtype)
 
 -- the first of some types that has a word, with it
-abbrev pub first_told : (RrType → Option AliasWord) → List RrType → Option AliasTold
-first_told word_for [] = None
-first_told word_for (rtype ∷ rtypes) =
-    option_map_or (λ word. Some (record { word = word; rtype = rtype })) (word_for rtype) (first_told word_for rtypes)
+abbrev pub first_word : (RrType → Option AliasWord) → List RrType → Option TargetWord
+first_word word_for [] = None
+first_word word_for (rtype ∷ rtypes) =
+    option_map_or (λ word. Some (record { word = word; rtype = rtype })) (word_for rtype) (first_word word_for rtypes)
 
--- what is told of a target at a server
-abbrev pub target_told : WalksTold → Labels → Labels → Option AliasTold
-target_told told server target = first_told (type_word told server target) other_types
+-- the word for a target at a server
+abbrev pub target_word : WalksByName → Labels → Labels → Option TargetWord
+target_word walks server target = first_word (type_word walks server target) other_types
 
 -- ---- the words
 

@@ -1,5 +1,5 @@
--- For the code alone, no public clause cites it: what is told of targets by what walks of type A ask last, since those of
--- all types but CNAME go alike.
+-- For the code alone, no public clause cites it: the words for targets by what walks of type A ask last, since those of all
+-- types but CNAME go alike.
 use Rattle.std.specs.Prelude.{◌≡◌, ◌&&◌, nat_lt, Bool, false, List, length, map, Option, Some, None, option_map, if◌then◌else◌}
 use Rattle.std.specs.BTreeMap as maps
 use Rattle.std.specs.List.{flat_map, list_any}
@@ -21,8 +21,8 @@ use Rattle.plain_resolver.specs.WalkEnds.{zone_ends_of}
 use Rattle.plain_resolver.specs.declared.walk_end.ZoneEnd.{ZoneEnd}
 use Rattle.plain_resolver.proofs.AskedWalks.{all_walks}
 use Rattle.name_ends.specs.Ends.{most_walks}
-use Rattle.alias_ends.specs.Aliases.{WalksTold, ends_word, first_told, other_types, target_told}
-use Rattle.alias_ends.specs.declared.words.AliasTold.{AliasTold}
+use Rattle.alias_ends.specs.Aliases.{WalksByName, ends_word, first_word, other_types, target_word}
+use Rattle.alias_ends.specs.declared.words.TargetWord.{TargetWord}
 use Rattle.alias_ends.specs.declared.words.AliasWord.{AliasWord}
 
 -- ---- what is asked
@@ -32,7 +32,7 @@ abbrev pub unless_many : List Walk → Option (List Walk)
 unless_many walks = if nat_lt most_walks (length walks) then None else Some walks
 
 -- all walks of each name with each type
-unfoldable pub walks_in : Setting → WalksTold
+unfoldable pub walks_in : Setting → WalksByName
 walks_in setting server name rtype = unless_many (all_walks setting name rtype server)
 
 -- what they ask last
@@ -54,15 +54,15 @@ end_cmp a b = ordering_then (name_cmp a.server b.server) (name_cmp a.name b.name
 
 -- ---- what is known
 
--- each entry of the map is what is to be told of its key
+-- each entry of the map is what is known of its key
 abbrev pub Knows : {K V : Type 0} → (K → K → Ordering) → (K → V) → maps.BTreeMap K V → Type 0
 Knows {K = K} {V = V} cmp tell known = (key : K) (value : V) → maps.get cmp known key ≡ Some value → value ≡ tell key
 
--- what is told of a target at a server
-abbrev pub told_at : Setting → ZoneEnd → Option AliasTold
-told_at setting at = target_told (walks_in setting) at.server at.name
+-- the word for a target at a server
+abbrev pub word_there : Setting → ZoneEnd → Option TargetWord
+word_there setting at = target_word (walks_in setting) at.server at.name
 
--- ---- what is told of each type
+-- ---- the word for each type
 
 -- what was found where walks end in what a zone tells
 abbrev pub leaf_of : Found → Leaf
@@ -75,7 +75,7 @@ abbrev pub leaf_in : RrType → Labels → Option Zone → Leaf
 leaf_in rtype name None = leaves.NoData
 leaf_in rtype name (Some zone) = leaf_of (found zone name rtype)
 
--- what is told with a type where a walk ends
+-- what a zone tells with a type where a walk ends
 abbrev pub leaf_at : Config → RrType → ZoneEnd → Leaf
 leaf_at config rtype end = leaf_in rtype end.name (nearest_of config end.server end.name)
 
@@ -83,16 +83,16 @@ leaf_at config rtype end = leaf_in rtype end.name (nearest_of config end.server 
 abbrev pub word_at : Config → List ZoneEnd → List ZoneEnd → RrType → Option AliasWord
 word_at config here tops rtype = ends_word (map (leaf_at config rtype) here) (map (leaf_at config rtype) tops)
 
--- what is told of a target, by what its walks from a server ask last, and by what those from the top servers do
-abbrev pub told_by : Config → Option (List ZoneEnd) → Option (List ZoneEnd) → Option AliasTold
-told_by config (Some here) (Some tops) = first_told (word_at config here tops) other_types
-told_by config here tops = None
+-- the word for a target, by what its walks from a server ask last, and by what those from the top servers do
+abbrev pub word_by_ends : Config → Option (List ZoneEnd) → Option (List ZoneEnd) → Option TargetWord
+word_by_ends config (Some here) (Some tops) = first_word (word_at config here tops) other_types
+word_by_ends config here tops = None
 
 -- a walk asks the server last, for the name
 abbrev pub is_at : Labels → Labels → ZoneEnd → Bool
 is_at server name end = name_eq server end.server && name_eq name end.name
 
--- some walk does, as far as they are told
+-- some walk does, as far as they are followed
 abbrev pub some_at : Labels → Labels → Option (List ZoneEnd) → Bool
 some_at server name None = false
 some_at server name (Some ends) = list_any (is_at server name) ends

@@ -3,11 +3,11 @@
 ghost use Rattle.std.specs.Prelude.{◌≡◌, None, IfOk};
 ghost use Rattle.dns_data.specs.declared.rr_type.RrType.TheVariants as rr_types;
 ghost use Rattle.net_model.specs.Step.{following, Setting};
-ghost use Rattle.alias_ends.specs.Known.{Knows, end_cmp, ends_in, told_at, walks_in};
-ghost use Rattle.alias_ends.specs.Aliases.{is_found, target_told};
+ghost use Rattle.alias_ends.specs.Known.{Knows, end_cmp, ends_in, word_there, walks_in};
+ghost use Rattle.alias_ends.specs.Aliases.{is_found, target_word};
 
 use crate::known::{KnownEnds, ends_of, some_at};
-use crate::words::{AliasTold, told_by};
+use crate::words::{TargetWord, word_by_ends};
 use dns_data::{List, Name, NoMemory, RrType};
 use plain_resolver::ZoneEnd;
 use std::alloc::Global;
@@ -16,7 +16,7 @@ use std::marker::Model;
 use zone_lookup::Hosts;
 
 /// The servers with the trees of their zones, those that are followed, what the walks of aliases and of targets ask last,
-/// and what is told of targets at servers, as far as it was asked for before. Contracts see what walks are read in.
+/// and the words for targets at servers, as far as they were asked for before. Contracts see what walks are read in.
 #[derive(Drop)]
 pub struct AliasAsker<'h, 'a> {
     hosts: &'h Hosts<'a>,
@@ -24,14 +24,14 @@ pub struct AliasAsker<'h, 'a> {
     followed: &'h [Name],
     records: KnownEnds<'h, 'a>,
     targets: KnownEnds<'h, 'a>,
-    known: BTreeMap<ZoneEnd, Option<AliasTold>>,
+    known: BTreeMap<ZoneEnd, Option<TargetWord>>,
 }
 
 impl<'h, 'a> Model for AliasAsker<'h, 'a> {
     ghost use Rattle.std.specs.Prelude.{◌≡◌};
     ghost use Rattle.dns_data.specs.declared.rr_type.RrType.TheVariants as rr_types;
     ghost use Rattle.net_model.specs.Step.{Setting, following};
-    ghost use Rattle.alias_ends.specs.Known.{Knows, end_cmp, told_at};
+    ghost use Rattle.alias_ends.specs.Known.{Knows, end_cmp, word_there};
 
     ghost Value = { Setting };
 
@@ -39,7 +39,7 @@ impl<'h, 'a> Model for AliasAsker<'h, 'a> {
 
     ghost invariant = { λ asker. (asker.records ≡ record { setting = following asker.hosts.now asker.rewrites asker.followed.now; rtype = rr_types.Cname })
         × (asker.targets ≡ record { setting = following asker.hosts.now asker.rewrites asker.followed.now; rtype = rr_types.A })
-        × Knows end_cmp (told_at (following asker.hosts.now asker.rewrites asker.followed.now)) asker.known };
+        × Knows end_cmp (word_there (following asker.hosts.now asker.rewrites asker.followed.now)) asker.known };
 }
 
 impl<'h, 'a> AliasAsker<'h, 'a> {
@@ -78,15 +78,15 @@ impl<'h, 'a> AliasAsker<'h, 'a> {
         Ok(some_at(&ends, server, name))
     }
 
-    /// What is told of a target at a server. Each target is asked for once at the top servers, and once at each server that
+    /// The word for a target at a server. Each target is asked for once at the top servers, and once at each server that
     /// isn't asked last for it from there: one that is answers as is found from the top servers.
-    pub fn told(
+    pub fn word(
         &mut self,
         alloc: Global,
         server: &Name,
         target: &Name,
-    ) -> Result<Option<AliasTold>, NoMemory>
-        ensures told { IfOk result (λ told. told ≡ target_told (walks_in self.old) server.now target.now) }
+    ) -> Result<Option<TargetWord>, NoMemory>
+        ensures word { IfOk result (λ word. word ≡ target_word (walks_in self.old) server.now target.now) }
         ensures kept { self.new ≡ self.old }
     {
         let tops = self.targets.ends(alloc, target)?;
@@ -95,11 +95,18 @@ impl<'h, 'a> AliasAsker<'h, 'a> {
         }
         let at = target_at(alloc, server, target)?;
         match self.known.get(&at).copied() {
-            Some(told) => Ok(told),
+            Some(word) => Ok(word),
             None => {
-                let told = told_of(alloc, self.hosts, self.rewrites, self.followed, &at, &tops)?;
-                keep(&mut self.known, at, told)?;
-                Ok(told)
+                let word = word_at_server(
+                    alloc,
+                    self.hosts,
+                    self.rewrites,
+                    self.followed,
+                    &at,
+                    &tops,
+                )?;
+                keep(&mut self.known, at, word)?;
+                Ok(word)
             }
         }
     }
@@ -115,16 +122,16 @@ fn target_at(alloc: Global, server: &Name, target: &Name) -> Result<ZoneEnd, NoM
     })
 }
 
-/// What is told of a target at a server, beside what its walks from the top servers ask last.
-fn told_of(
+/// The word for a target at a server, beside what its walks from the top servers ask last.
+fn word_at_server(
     alloc: Global,
     hosts: &Hosts<'_>,
     rewrites: u32,
     followed: &[Name],
     at: &ZoneEnd,
     tops: &Option<List<ZoneEnd>>,
-) -> Result<Option<AliasTold>, NoMemory>
-    ensures { tops.now ≡ ends_in (following hosts.now rewrites followed.now) rr_types.A None at.now.name → IfOk result (λ told. told ≡ told_at (following hosts.now rewrites followed.now) at.now) }
+) -> Result<Option<TargetWord>, NoMemory>
+    ensures { tops.now ≡ ends_in (following hosts.now rewrites followed.now) rr_types.A None at.now.name → IfOk result (λ word. word ≡ word_there (following hosts.now rewrites followed.now) at.now) }
 {
     let here = ends_of(
         alloc,
@@ -135,17 +142,17 @@ fn told_of(
         Some(&at.server),
         &at.name,
     )?;
-    told_by(alloc, hosts, &here, tops)
+    word_by_ends(alloc, hosts, &here, tops)
 }
 
-/// Keeps what is told of a target at a server.
+/// Keeps the word for a target at a server.
 fn keep(
-    known: &mut BTreeMap<ZoneEnd, Option<AliasTold>>,
+    known: &mut BTreeMap<ZoneEnd, Option<TargetWord>>,
     at: ZoneEnd,
-    told: Option<AliasTold>,
+    word: Option<TargetWord>,
 ) -> Result<(), NoMemory>
-    ensures { (setting : Setting) → Knows end_cmp (told_at setting) known.old → told ≡ told_at setting at → Knows end_cmp (told_at setting) known.new }
+    ensures { (setting : Setting) → Knows end_cmp (word_there setting) known.old → word ≡ word_there setting at → Knows end_cmp (word_there setting) known.new }
 {
-    known.insert(at, told)?;
+    known.insert(at, word)?;
     Ok(())
 }

@@ -1,7 +1,7 @@
 //! What the targets of aliases end in: at the server that holds the alias, and from the top servers.
 //!
 //! The layer above may rest on this: `AliasAsker::is_found` tells whether a query for an alias finds it at a server, and
-//! `AliasAsker::told` what a server answers otherwise for a target than is found from the top servers, as the definitions
+//! `AliasAsker::word` what a server answers otherwise for a target than is found from the top servers, as the definitions
 //! say.
 //!
 //! Costs: each owner and each target is asked for once at the top servers, and each target once at each server, by walks of
@@ -13,4 +13,4 @@ mod known;
 mod words;
 
 pub use asker::AliasAsker;
-pub use words::{AliasTold, AliasWord};
+pub use words::{AliasWord, TargetWord};

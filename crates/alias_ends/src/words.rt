@@ -1,10 +1,10 @@
-//! What is told of an alias's target, by what its walks ask last.
+//! The word for an alias's target, by what its walks ask last.
 
 ghost use Rattle.std.specs.Prelude.{◌≡◌, map, IfOk};
 ghost use Rattle.std.specs.List.{list_all, list_any};
 ghost use Rattle.graph_form.specs.FirstPath.{answer_eq};
-ghost use Rattle.alias_ends.specs.Aliases.{alias_counts, alias_text, ends_word, first_told, has_other_end, other_types};
-ghost use Rattle.alias_ends.specs.Known.{end_eq, leaf_at, leaf_of, told_by, word_at};
+ghost use Rattle.alias_ends.specs.Aliases.{alias_counts, alias_text, ends_word, first_word, has_other_end, other_types};
+ghost use Rattle.alias_ends.specs.Known.{end_eq, leaf_at, leaf_of, word_by_ends, word_at};
 
 use dns_data::{List, NoMemory, RrType};
 use graph_form::is_same_answer;
@@ -13,7 +13,7 @@ use plain_resolver::ZoneEnd;
 use std::alloc::Global;
 use zone_lookup::{Hosts, find};
 
-/// What is told of an alias's target.
+/// The word for an alias's target.
 #[derive(Clone, Copy, Debug)]
 pub enum AliasWord {
     /// From the top servers other ends are found than at the alias's server.
@@ -22,9 +22,9 @@ pub enum AliasWord {
     Elsewhere,
 }
 
-/// What is told of an alias's target, and the first type for which it is.
+/// The word for an alias's target, with the first type that has it.
 #[derive(Clone, Copy, Debug)]
-pub struct AliasTold {
+pub struct TargetWord {
     pub word: AliasWord,
     pub rtype: RrType,
 }
@@ -63,36 +63,36 @@ impl AliasWord {
     }
 }
 
-/// What is told of a target, by what its walks of type A from a server ask last and by what those from the top servers do,
+/// The word for a target, by what its walks of type A from a server ask last and by what those from the top servers do,
 /// where there are no more walks than are followed.
-pub(crate) fn told_by(
+pub(crate) fn word_by_ends(
     alloc: Global,
     hosts: &Hosts<'_>,
     here: &Option<List<ZoneEnd>>,
     tops: &Option<List<ZoneEnd>>,
-) -> Result<Option<AliasTold>, NoMemory>
-    ensures { IfOk result (λ told. told ≡ told_by hosts.now here.now tops.now) }
+) -> Result<Option<TargetWord>, NoMemory>
+    ensures { IfOk result (λ word. word ≡ word_by_ends hosts.now here.now tops.now) }
 {
     match (here, tops) {
-        (Some(here), Some(tops)) => told_of_ends(alloc, hosts, here.items(), tops.items()),
+        (Some(here), Some(tops)) => word_of_ends(alloc, hosts, here.items(), tops.items()),
         _ => Ok(None),
     }
 }
 
-/// What is told of a target, by what its walks ask last. Nothing is told where the walks from the server ask nothing last
-/// that those from the top servers don't.
-fn told_of_ends(
+/// The word for a target, by what its walks ask last. There is none where the walks from the server ask nothing last that
+/// those from the top servers don't.
+fn word_of_ends(
     alloc: Global,
     hosts: &Hosts<'_>,
     here: &[ZoneEnd],
     tops: &[ZoneEnd],
-) -> Result<Option<AliasTold>, NoMemory>
-    ensures { IfOk result (λ told. told ≡ first_told (word_at hosts.now here.now tops.now) other_types) }
+) -> Result<Option<TargetWord>, NoMemory>
+    ensures { IfOk result (λ word. word ≡ first_word (word_at hosts.now here.now tops.now) other_types) }
 {
     if are_among(here, tops) {
         return Ok(None);
     }
-    first_told(alloc, hosts, here, tops, &OTHER_TYPES)
+    first_word(alloc, hosts, here, tops, &OTHER_TYPES)
 }
 
 /// Whether all of the first are among the second.
@@ -109,21 +109,21 @@ fn is_among(end: &ZoneEnd, tops: &[ZoneEnd]) -> bool
     tops.iter().any(|other| *end == *other)
 }
 
-/// The first of some types for which a word is told, with it.
-fn first_told(
+/// The first of some types that has a word, with it.
+fn first_word(
     alloc: Global,
     hosts: &Hosts<'_>,
     here: &[ZoneEnd],
     tops: &[ZoneEnd],
     rtypes: &[RrType],
-) -> Result<Option<AliasTold>, NoMemory>
-    ensures { IfOk result (λ told. told ≡ first_told (word_at hosts.now here.now tops.now) rtypes.now) }
+) -> Result<Option<TargetWord>, NoMemory>
+    ensures { IfOk result (λ word. word ≡ first_word (word_at hosts.now here.now tops.now) rtypes.now) }
 {
     for rtype in rtypes {
         let said = word_at(alloc, hosts, here, tops, *rtype)?;
         match said {
             Some(word) => {
-                return Ok(Some(AliasTold {
+                return Ok(Some(TargetWord {
                     word,
                     rtype: *rtype,
                 }));
@@ -149,7 +149,7 @@ fn word_at(
     Ok(ends_word(here.items(), tops.items()))
 }
 
-/// What is told with the type where walks end.
+/// What zones tell with the type where walks end.
 fn leaves_at(
     alloc: Global,
     hosts: &Hosts<'_>,
@@ -165,7 +165,7 @@ fn leaves_at(
     Ok(leaves)
 }
 
-/// What is told with the type where a walk ends.
+/// What a zone tells with the type where a walk ends.
 fn leaf_at(alloc: Global, hosts: &Hosts<'_>, rtype: RrType, end: &ZoneEnd) -> Result<Leaf, NoMemory>
     ensures { IfOk result (λ leaf. leaf ≡ leaf_at hosts.now rtype end.now) }
 {

@@ -4,14 +4,14 @@
 ghost use Rattle.std.specs.Prelude.{map};
 ghost use Rattle.std.specs.String.{string_bytes};
 ghost use Rattle.run_endings.specs.Runs.{files_of, output_of};
-ghost use Rattle.zone_map.specs.Runs.{RunsAsAsked};
+ghost use Rattle.map_run.specs.Runs.{RunsAsAsked};
 
 use dns_data::NoMemory;
 use io_edges::{DiskFiles, Files, OutSink, Sink, borrowed_words, command_words};
+use map_run::groot_map;
 use run_endings::{Status, tell_no_memory};
 use std::alloc::Global;
 use std::process::ExitCode;
-use zone_map::groot_map;
 
 fn main(rt: HostRuntime) -> ExitCode {
     let mut files = DiskFiles::new(&rt);

@@ -3,7 +3,7 @@ use Rattle.std.proofs.KnownBytes.{Appends-nil}
 use Rattle.run_endings.proofs.Written.{ran_out}
 use Rattle.run_endings.specs.Runs.{FilesOfRun, OutputOfRun}
 use Rattle.run_endings.specs.declared.status.Status.{Status}
-use Rattle.zone_map.specs.Runs.{RunsAsAsked}
+use Rattle.map_run.specs.Runs.{RunsAsAsked}
 use Rattle.groot_map.proofs.run.Goals as goal
 
 -- a run of words is one of the same words

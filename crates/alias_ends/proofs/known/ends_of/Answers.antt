@@ -4,7 +4,7 @@ use Rattle.dns_data.specs.Name.{Labels}
 use Rattle.net_model.specs.Step.{Setting}
 use Rattle.plain_resolver.specs.declared.walk_end.ZoneEnd.{ZoneEnd}
 use Rattle.alias_ends.specs.Known.{ends_in}
-use Rattle.alias_ends.proofs.ToldAliases.{ends_few, ends_many}
+use Rattle.alias_ends.proofs.AliasWords.{ends_few, ends_many}
 use Rattle.alias_ends.proofs.known.ends_of.Goals as goal
 
 pub returns-in-Ok : goal.returns-in-Ok

@@ -1,4 +1,4 @@
--- So far there is what is told of the first ones.
+-- So far there is what zones tell of the first ones.
 use Rattle.std.proofs.Common.{◌≡◌, map, take}
 use Rattle.alias_ends.specs.Known.{leaf_at}
 use Rattle.alias_ends.proofs.words.leaves_at.Given as goal

@@ -2,7 +2,7 @@ use Rattle.std.proofs.Common.{None, ap, ◌∙◌}
 use Rattle.net_model.specs.Step.{Setting, following}
 use Rattle.alias_ends.specs.Aliases.{is_found}
 use Rattle.alias_ends.specs.Known.{NamesAsked, ends_in, some_at, walks_in}
-use Rattle.alias_ends.proofs.ToldAliases.{found_there}
+use Rattle.alias_ends.proofs.AliasWords.{found_there}
 use Rattle.alias_ends.proofs.asker.AliasAsker.is_found.Goals as goal
 
 pub returns-clause-found : goal.returns-clause-found

@@ -1,7 +1,0 @@
--- So far the set tells of the first origins' servers.
-use Rattle.std.proofs.Common.{take}
-use Rattle.zone_map.specs.ReachedRows.{TellOfAnswers}
-use Rattle.zone_map.proofs.answered.tellers_of.Given as goal
-
-abbrev pub invariant-loop-one : goal.invariant-loop-one
-invariant-loop-one l = TellOfAnswers (take l.one-index l.answered) l.tellers

@@ -1,6 +1,0 @@
--- So far there are the first rows.
-use Rattle.std.proofs.Common.{◌≡◌, map, take}
-use Rattle.zone_map.proofs.chain.borrowed.Given as goal
-
-abbrev pub invariant-loop-row : goal.invariant-loop-row
-invariant-loop-row l = map (λ row. row.now) l.each ≡ take l.row-index l.rows

@@ -1,8 +1,0 @@
--- So far the first rows are listed.
-use Rattle.std.proofs.Common.{take}
-use Rattle.zone_map.specs.Chain.{is_row_at}
-use Rattle.zone_map.specs.NameLists.{Lists}
-use Rattle.zone_map.proofs.known_rows.rows_by_origin.Given as goal
-
-abbrev pub invariant-loop-row : goal.invariant-loop-row
-invariant-loop-row l = Lists is_row_at (take l.row-index l.rows) l.lists

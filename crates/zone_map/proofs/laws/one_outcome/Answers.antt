@@ -1,6 +1,0 @@
--- That a job has no two outcomes.
-use Rattle.zone_map.proofs.OneOutcome as outcomes
-use Rattle.zone_map.proofs.laws.one_outcome.Goals as goal
-
-pub returns : goal.returns
-returns c = record { one = outcomes.one_outcome }

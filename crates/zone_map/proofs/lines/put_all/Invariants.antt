@@ -1,6 +1,0 @@
--- So far there are the first columns.
-use Rattle.std.proofs.Common.{◌≡◌, ◌++◌, take}
-use Rattle.zone_map.proofs.lines.put_all.Given as goal
-
-abbrev pub invariant-loop-column : goal.invariant-loop-column
-invariant-loop-column l = l.columns ≡ l.fn.columns ++ take l.column-index l.more

@@ -1,7 +1,0 @@
--- So far there are the texts of the first lines.
-use Rattle.std.proofs.Common.{◌≡◌, take}
-use Rattle.zone_map.specs.Lines.{lines_text}
-use Rattle.zone_map.proofs.lines.text_of.Given as goal
-
-abbrev pub invariant-loop-line : goal.invariant-loop-line
-invariant-loop-line l = l.text ≡ lines_text (take l.line-index l.lines)

@@ -1,9 +1,0 @@
-use Rattle.std.proofs.Common.{Bool, [], None, cond, ap, ◌∙◌}
-use Rattle.zone_map.specs.NameLists.{listed_at}
-use Rattle.zone_map.proofs.ListedNames.{listed_by}
-use Rattle.zone_map.proofs.name_lists.take_listed.Goals as goal
-
-pub returns-in-Some-clause-others : goal.returns-in-Some-clause-others
-returns-in-Some-clause-others g c = λ other differs.
-    listed_by c.args.name.now other None c.args.lists.now c.remove.new.self (c.remove.ensures.updates.0 other)
-    ∙ ap (λ (b : Bool). cond b [] (listed_at c.args.lists.now other)) differs

@@ -1,7 +1,0 @@
-use Rattle.std.proofs.Common.{◌∙◌}
-use Rattle.dns_data.specs.Name.{name_eq}
-use Rattle.zone_map.proofs.ListedNames.{any_behind}
-use Rattle.zone_map.proofs.row_zone.is_named.Goals as goal
-
-pub returns : goal.returns
-returns c = c.some_is.ensures ∙ any_behind (name_eq c.args.name.now) c.args.names.now

@@ -1,8 +1,0 @@
--- So far what the first records name is listed.
-use Rattle.std.proofs.Common.{take}
-use Rattle.zone_map.specs.NameLists.{Lists}
-use Rattle.zone_map.specs.Servers.{names_server}
-use Rattle.zone_map.proofs.servers.by_server.Given as goal
-
-abbrev pub invariant-loop-naming : goal.invariant-loop-naming
-invariant-loop-naming l = Lists names_server (take l.naming-index l.namings) l.lists
