@@ -1,4 +1,4 @@
--- What is told of a name depends on the name servers alone for whose addresses it waits.
+-- Whether an address of a name is learnt depends on the name servers alone for whose addresses it waits.
 use Rattle.std.proofs.Common.{◌≡◌, ℕ, Bool, true, false, ◌&&◌, List, [], ◌∷◌, length, Contains, Option, Some, None, refl, sym, ap, ◌∙◌, subst, inl, inr, ◌==◌}
 use Rattle.std.specs.Prelude.{slice_get}
 use Rattle.std.specs.List.{flat_map}
@@ -8,12 +8,12 @@ use Rattle.dns_data.specs.Name.{Labels, name_eq, is_among}
 use Rattle.dns_data.proofs.Membership.{flat_map_has, has_first}
 use Rattle.dns_data.proofs.Names.{name_eq_decides}
 use Rattle.graph_form.proofs.Places.{item_there}
-use Rattle.address_deps.specs.Dependents.{told_awaits, turn_awaits, turns_await}
-use Rattle.address_deps.specs.Told.{PathGives, Tells, gives_from, node_gives, turn_gives}
-use Rattle.address_deps.specs.declared.told.AddressTold.{AddressTold}
-use Rattle.address_deps.specs.declared.told.AddressTold.TheVariants.{Known, ByPaths}
-use Rattle.address_deps.specs.declared.told.Turn.{Turn}
-use Rattle.address_deps.specs.declared.told.Turn.TheVariants.{Gives, Fails, Goes, Waits}
+use Rattle.address_deps.specs.Dependents.{address_awaits, turn_awaits, turns_await}
+use Rattle.address_deps.specs.Addresses.{PathGives, IsLearnt, gives_from, node_gives, turn_gives}
+use Rattle.address_deps.specs.declared.addresses.AddressLearnt.{AddressLearnt}
+use Rattle.address_deps.specs.declared.addresses.AddressLearnt.TheVariants.{Known, ByPaths}
+use Rattle.address_deps.specs.declared.addresses.Turn.{Turn}
+use Rattle.address_deps.specs.declared.addresses.Turn.TheVariants.{Gives, Fails, Goes, Waits}
 
 -- two sets of servers are equal but for one name, which isn't among those that are awaited
 pub record AreAlike (awaited one other : List Labels) : Type 0 where
@@ -79,11 +79,11 @@ module _ (one other : List Labels) (name : Labels) (apart : (server : Labels) �
           gives = sym (same_path path.numbers path.at) ∙ path.gives;
         }
 
--- if two sets of servers differ in nothing but one name, which isn't awaited, an address can be learnt with the one, as is
--- told, where it can with the other
-pub same_told : (told : AddressTold) (one other : List Labels) → AreAlike (told_awaits told) one other → Tells one told → Tells other told
-same_told (Known learnt) one other alike tells = tells
-same_told (ByPaths paths) one other alike tells =
+-- if two sets of servers differ in nothing but one name, which isn't awaited, an address can be learnt with the one where
+-- it can with the other
+pub same_learnt : (address : AddressLearnt) (one other : List Labels) → AreAlike (address_awaits address) one other → IsLearnt one address → IsLearnt other address
+same_learnt (Known learnt) one other alike tells = tells
+same_learnt (ByPaths paths) one other alike tells =
     elim tells [
       | inl four ↦ inl (same_given one other alike.name alike.apart paths.four
           (λ has. alike.not_awaited (Contains-append_left (flat_map turns_await paths.four) (flat_map turns_await paths.six) alike.name has)) paths.starts four)

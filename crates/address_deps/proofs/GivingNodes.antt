@@ -8,9 +8,9 @@ use Rattle.dns_data.specs.Name.{Labels, is_among}
 use Rattle.dns_data.proofs.Searches.{from_any, any_has}
 use Rattle.graph_form.proofs.Places.{item_there, place_of_item}
 use Rattle.address_deps.specs.Giving.{AreComplete, AreGiving, is_marked}
-use Rattle.address_deps.specs.Told.{PathGives, gives_from, node_gives, turn_gives}
-use Rattle.address_deps.specs.declared.told.Turn.{Turn}
-use Rattle.address_deps.specs.declared.told.Turn.TheVariants.{Gives, Fails, Goes, Waits}
+use Rattle.address_deps.specs.Addresses.{PathGives, gives_from, node_gives, turn_gives}
+use Rattle.address_deps.specs.declared.addresses.Turn.{Turn}
+use Rattle.address_deps.specs.declared.addresses.Turn.TheVariants.{Gives, Fails, Goes, Waits}
 
 module _ (followed : List Labels) (nodes : List (List Turn)) where
   abbrev from_node : List ℕ → ℕ → Bool

@@ -29,9 +29,9 @@ use Rattle.graph_form.specs.declared.node.Node.{Node}
 use Rattle.graph_form.proofs.Paths.{same_item}
 use Rattle.graph_form.proofs.Places.{PairAt, pair_at, item_there, place_of_item}
 use Rattle.address_deps.specs.Giving.{AreTurnsOf, ArePathsOf, IsTurnOf, branch_gives, may_take}
-use Rattle.address_deps.specs.Told.{AreServers, PathGives, gives_from, node_gives, turn_gives}
-use Rattle.address_deps.specs.declared.told.AddressPaths.{AddressPaths}
-use Rattle.address_deps.specs.declared.told.Turn.{Turn}
+use Rattle.address_deps.specs.Addresses.{AreServers, PathGives, gives_from, node_gives, turn_gives}
+use Rattle.address_deps.specs.declared.addresses.AddressPaths.{AddressPaths}
+use Rattle.address_deps.specs.declared.addresses.Turn.{Turn}
 use Rattle.address_deps.proofs.MoreFollowed.{Narrowed, next_narrowed, from_giving, gives_led, ended_gives}
 
 -- at each place two lists both have an item of a pair, or neither has one

@@ -16,10 +16,10 @@ use Rattle.net_model.specs.Learnt.{Learns, IsLeast, IsGreatest}
 use Rattle.net_model.specs.Nearest.{server_names}
 use Rattle.net_model.specs.Step.{following}
 use Rattle.net_model.proofs.Naming.{from_listed, is_listed}
-use Rattle.address_deps.specs.declared.told.AddressTold.{AddressTold}
+use Rattle.address_deps.specs.declared.addresses.AddressLearnt.{AddressLearnt}
 use Rattle.graph_form.proofs.Places.{place_of_item}
 use Rattle.address_deps.specs.Giving.{unset}
-use Rattle.address_deps.specs.Told.{AreServers, AreTold}
+use Rattle.address_deps.specs.Addresses.{AreServers, AreAddresses}
 use Rattle.address_deps.specs.Sets.{absent, present, IsGrowing, NoneMoreLearnt, IsShrinking, AreLearnt, NoneMoreLearntAt, IsLearntAt}
 use Rattle.address_deps.proofs.Waking.{gone_fewer, gone_there, put_more, put_there}
 use Rattle.address_deps.proofs.SteadySets.{one_below, is_least, all_above, one_above, is_greatest}
@@ -66,9 +66,9 @@ module _ (few more : Labels → Bool) (grows : (name : Labels) → few name ≡ 
 
 -- ---- the search for the least set
 
-module _ (config : Config) (told : List AddressTold) where
+module _ (config : Config) (addresses : List AddressLearnt) where
   -- before any server is added the search for the least set is fair
-  pub grows_from_none : IsGrowing config told []
+  pub grows_from_none : IsGrowing config addresses []
   grows_from_none =
       record {
         servers = λ name h. cc;
@@ -82,8 +82,8 @@ module _ (config : Config) (told : List AddressTold) where
     grown_less = count_less (is_among learnt) (is_among more) (put_more name learnt more put) config.servers name among missing (put_there name learnt more put)
 
     -- the search for the least set stays fair when a server is added whose address is learnt
-    pub grown : IsGrowing config told learnt → ((rewrites : ℕ) → AreTold config rewrites told → Learns (following config rewrites learnt) name)
-        → IsGrowing config told more
+    pub grown : IsGrowing config addresses learnt → ((rewrites : ℕ) → AreAddresses config rewrites addresses → Learns (following config rewrites learnt) name)
+        → IsGrowing config addresses more
     grown growing learns =
         record {
           servers = λ other h.
@@ -100,19 +100,19 @@ module _ (config : Config) (told : List AddressTold) where
         }
 
   -- where no server more can be learnt, those that the search added are the least set, in the order of the servers
-  pub least_told : (learnt : List Labels) → IsGrowing config told learnt → NoneMoreLearnt config told learnt → (rewrites : ℕ) → AreTold config rewrites told
+  pub is_least_set : (learnt : List Labels) → IsGrowing config addresses learnt → NoneMoreLearnt config addresses learnt → (rewrites : ℕ) → AreAddresses config rewrites addresses
       → IsLeast config rewrites (filter (is_among learnt) (server_names config))
-  least_told learnt growing closed rewrites are =
+  is_least_set learnt growing closed rewrites are =
       is_least config rewrites learnt (is_among learnt) (growing.below rewrites are)
       (λ name among. (from_listed learnt name, is_listed learnt name))
       (λ name (among, learns). from_listed learnt name (closed rewrites are name among learns))
 
 -- ---- the search for the greatest set
 
-module _ (config : Config) (told : List AddressTold) where
+module _ (config : Config) (addresses : List AddressLearnt) where
   -- before any server is taken away the search for the greatest set is fair
   pub shrinks_from_all : (known : List Labels) → AreServers config known → ((name : Labels) → Contains (server_names config) name → is_among known name ≡ true)
-      → IsShrinking config told known
+      → IsShrinking config addresses known
   shrinks_from_all known servers all =
       record {
         servers = servers;
@@ -133,8 +133,8 @@ module _ (config : Config) (told : List AddressTold) where
         count_less (λ (n : Labels). not (is_among known n)) (λ (n : Labels). not (is_among fewer n)) turned config.servers name among (ap not there) (ap not (gone_there name known fewer taken))
 
     -- the search for the greatest set stays fair when a server is taken away whose address isn't learnt
-    pub shrunk : IsShrinking config told known → ((rewrites : ℕ) → AreTold config rewrites told → Learns (following config rewrites known) name → ⊥)
-        → IsShrinking config told fewer
+    pub shrunk : IsShrinking config addresses known → ((rewrites : ℕ) → AreAddresses config rewrites addresses → Learns (following config rewrites known) name → ⊥)
+        → IsShrinking config addresses fewer
     shrunk shrinking fails =
         record {
           servers = λ other h. shrinking.servers other (gone_fewer name known fewer taken other h);
@@ -148,9 +148,9 @@ module _ (config : Config) (told : List AddressTold) where
         by other false e has = inl (from_listed fewer other (taken other ∙ ap (λ (b : Bool). not b && is_among known other) e ∙ has))
 
   -- where each server that is left can be learnt, those that are left are the greatest set, in the order of the servers
-  pub greatest_told : (known : List Labels) → IsShrinking config told known → AreLearnt config told known → (rewrites : ℕ) → AreTold config rewrites told
+  pub is_greatest_set : (known : List Labels) → IsShrinking config addresses known → AreLearnt config addresses known → (rewrites : ℕ) → AreAddresses config rewrites addresses
       → IsGreatest config rewrites (filter (is_among known) (server_names config))
-  greatest_told known shrinking each rewrites are =
+  is_greatest_set known shrinking each rewrites are =
       is_greatest config rewrites known (is_among known) (shrinking.above rewrites are)
       (λ name among. (from_listed known name, is_listed known name))
       (λ name has.
@@ -159,9 +159,9 @@ module _ (config : Config) (told : List AddressTold) where
 
 -- ---- each server
 
-module _ (config : Config) (told : List AddressTold) (names : List Labels) where
+module _ (config : Config) (addresses : List AddressLearnt) (names : List Labels) where
   -- if at each place no server more can be learnt, none more can be learnt at all
-  pub none_more_in_all : ((place : ℕ) → place < length config.servers → NoneMoreLearntAt config told names place) → NoneMoreLearnt config told names
+  pub none_more_in_all : ((place : ℕ) → place < length config.servers → NoneMoreLearntAt config addresses names place) → NoneMoreLearnt config addresses names
   none_more_in_all each = λ rewrites are name among learns.
       let found = from_map (λ (s : Server). s.name) config.servers name among in
       let place = place_of_item config.servers found.0 found.1 in
@@ -170,7 +170,7 @@ module _ (config : Config) (told : List AddressTold) (names : List Labels) where
       (subst (Learns (following config rewrites names)) (sym found.2) learns))
 
   -- where the server at each place is learnt if it is in the list, each server of the list is learnt
-  pub all_learnt : ((place : ℕ) → place < length config.servers → IsLearntAt config told names place) → AreLearnt config told names
+  pub all_learnt : ((place : ℕ) → place < length config.servers → IsLearntAt config addresses names place) → AreLearnt config addresses names
   all_learnt each = λ rewrites are name among has.
       let found = from_map (λ (s : Server). s.name) config.servers name among in
       let place = place_of_item config.servers found.0 found.1 in

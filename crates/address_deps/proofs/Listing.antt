@@ -6,12 +6,12 @@ use Rattle.std.proofs.lemmas.List.Elements.{Contains-append_cases, Contains-appe
 use denote.Bor.{Bor}
 use Rattle.dns_data.specs.Name.{Labels}
 use Rattle.dns_data.proofs.Membership.{first_or_later, has_first, none_in_nil}
-use Rattle.address_deps.specs.declared.told.AddressTold.{AddressTold}
+use Rattle.address_deps.specs.declared.addresses.AddressLearnt.{AddressLearnt}
 use Rattle.graph_form.proofs.Paths.{same_item}
 use Rattle.dns_data.specs.Listed.{places_of}
 use Rattle.zone_lookup.specs.ListedFor.{IsListedFor}
 use Rattle.zone_lookup.proofs.TopsHolding.{Places}
-use Rattle.address_deps.specs.Dependents.{AreAllPlaces, AreDependents, told_awaits}
+use Rattle.address_deps.specs.Dependents.{AreAllPlaces, AreDependents, address_awaits}
 
 -- the names to which references lead
 abbrev pub borrowed_names : List (Bor Labels) → List Labels
@@ -30,9 +30,9 @@ listed_already place name places there other k = (
   ]),
 )
 
-module _ (told : List AddressTold) where
+module _ (addresses : List AddressLearnt) where
   -- where no place is listed for any name, all is listed for the servers before the first, for there are none
-  pub no_dependents : (places : Places) → ((name : Labels) → places_of places name ≡ []) → AreDependents told 0 places
+  pub no_dependents : (places : Places) → ((name : Labels) → places_of places name ≡ []) → AreDependents addresses 0 places
   no_dependents places none =
       record {
         listed = λ place one within here name awaited. absurd (omega (arith, within));
@@ -41,16 +41,16 @@ module _ (told : List AddressTold) where
 
   -- where all is listed for the servers before one, and its place for the names for whose addresses it waits, all is
   -- listed for the servers up to it
-  pub more_dependents : (bound : ℕ) (one : AddressTold) (old new : Places) → slice_get told bound ≡ Some one → AreDependents told bound old
-      → IsListedFor bound (told_awaits one) old new → AreDependents told (bound + 1) new
+  pub more_dependents : (bound : ℕ) (one : AddressLearnt) (old new : Places) → slice_get addresses bound ≡ Some one → AreDependents addresses bound old
+      → IsListedFor bound (address_awaits one) old new → AreDependents addresses (bound + 1) new
   more_dependents bound one old new here before put =
       record {
         listed = λ place other within there name awaited. elim (cases_lt place bound) [
           | inl less ↦ (put name place).1 (inl (before.listed place other less there name awaited))
           | inr past ↦
               let same : place ≡ bound = omega (arith, within, past) in
-              let is : other ≡ one = same_item (slice_get told bound) other one (ap (slice_get told) (sym same) ∙ there) here in
-              (put name place).1 (inr (same, subst (λ (t : AddressTold). Contains (told_awaits t) name) is awaited))
+              let is : other ≡ one = same_item (slice_get addresses bound) other one (ap (slice_get addresses) (sym same) ∙ there) here in
+              (put name place).1 (inr (same, subst (λ (t : AddressLearnt). Contains (address_awaits t) name) is awaited))
         ];
         within = λ name place has. elim ((put name place).0 has) [
           | inl old_one ↦ (let less = before.within name place old_one in omega (arith, less))

@@ -4,8 +4,8 @@ use Rattle.std.proofs.Math.ListN.{set}
 use Rattle.std.proofs.lemmas.Bool.{cases_eq}
 use Rattle.dns_data.specs.Name.{Labels}
 use Rattle.address_deps.specs.Giving.{is_marked, AreGiving}
-use Rattle.address_deps.specs.Told.{gives_from}
-use Rattle.address_deps.specs.declared.told.Turn.{Turn}
+use Rattle.address_deps.specs.Addresses.{gives_from}
+use Rattle.address_deps.specs.declared.addresses.Turn.{Turn}
 
 -- another one stays where one is set
 set_other : (marks : List Bool) (at other : ℕ) → (other ≡ at → ⊥) → is_marked (set marks at true) other ≡ is_marked marks other

@@ -7,7 +7,7 @@ use Rattle.std.proofs.lemmas.List.Elements.{Contains-append_cases, Contains-appe
 use Rattle.dns_data.specs.Name.{Labels}
 use Rattle.dns_data.proofs.Membership.{first_or_later, none_in_nil}
 use Rattle.dns_data.proofs.Searches.{any_has, from_any}
-use Rattle.address_deps.specs.declared.told.AddressTold.{AddressTold}
+use Rattle.address_deps.specs.declared.addresses.AddressLearnt.{AddressLearnt}
 use Rattle.address_deps.specs.Dependents.{AreWithin, IsSearchRound}
 use Rattle.address_deps.specs.Giving.{unset}
 
@@ -31,28 +31,28 @@ falls waiting next before after some fewer no_more =
     by true e was = omega (arith, no_more, was)
     by false e was = let less = fewer e in omega (arith, less, was)
 
-module _ (Good : List Labels → Type 0) (At : List Labels → ℕ → Type 0) (count : List Labels → ℕ) (told : List AddressTold) (waiting : List ℕ) (first : List Labels) where
+module _ (Good : List Labels → Type 0) (At : List Labels → ℕ → Type 0) (count : List Labels → ℕ) (addresses : List AddressLearnt) (waiting : List ℕ) (first : List Labels) where
   -- where a round stands in which the places before this one were looked at
   pub record IsRoundAt (at : ℕ) (names : List Labels) (next : List ℕ) : Type 0 where
     pub good : Good names
-    pub others : (place : ℕ) → place < length told → Contains (drop at waiting) place ⊎ (Contains next place ⊎ At names place)
-    pub within : AreWithin told next
+    pub others : (place : ℕ) → place < length addresses → Contains (drop at waiting) place ⊎ (Contains next place ⊎ At names place)
+    pub within : AreWithin addresses next
     pub fewer : (length next == 0) ≡ false → count names < count first
     pub no_more : count names ≤ count first
 
   -- at the beginning of a round no place was looked at, and none waits for the next
-  pub round_begins : IsSearchRound Good At told first waiting → IsRoundAt 0 first []
+  pub round_begins : IsSearchRound Good At addresses first waiting → IsRoundAt 0 first []
   round_begins round =
       record {
         good = round.good;
-        others = λ place within. elim (round.others place within) [ inl waits ↦ inl waits | inr told ↦ inr (inr told) ];
+        others = λ place within. elim (round.others place within) [ inl waits ↦ inl waits | inr addresses ↦ inr (inr addresses) ];
         within = λ place has. absurd (none_in_nil place has);
         fewer = λ e. cc;
         no_more = omega arith;
       }
 
   -- where all waiting places were looked at, the names and the places that wait next stand between two rounds
-  pub round_ends : (at : ℕ) (names : List Labels) (next : List ℕ) → length waiting ≤ at → IsRoundAt at names next → IsSearchRound Good At told names next
+  pub round_ends : (at : ℕ) (names : List Labels) (next : List ℕ) → length waiting ≤ at → IsRoundAt at names next → IsSearchRound Good At addresses names next
   round_ends at names next past on =
       record {
         good = on.good;
@@ -71,12 +71,12 @@ module _ (Good : List Labels → Type 0) (At : List Labels → ℕ → Type 0) (
 
     -- a place at which the server doesn't change the set is looked at in the round
     pub round_same : At names item → IsRoundAt (at + 1) names next
-    round_same told =
+    round_same addresses =
         record {
           good = on.good;
           others = λ place within. elim (on.others place within) [
             | inl waits ↦ elim (later place waits) [
-              | inl same ↦ inr (inr (subst (At names) same told))
+              | inl same ↦ inr (inr (subst (At names) same addresses))
               | inr rest ↦ inl rest
             ]
             | inr other ↦ inr other
@@ -88,14 +88,14 @@ module _ (Good : List Labels → Type 0) (At : List Labels → ℕ → Type 0) (
 
     -- a place at which the server changes the set is looked at in the round, and the places that depend on it wait
     pub round_changed : (new : List Labels) (listed : List ℕ) → Good new → count new < count names → At new item
-        → ((place : ℕ) → place < length told → At names place → Contains listed place ⊎ At new place) → AreWithin told listed
+        → ((place : ℕ) → place < length addresses → At names place → Contains listed place ⊎ At new place) → AreWithin addresses listed
         → IsRoundAt (at + 1) new (next ++ listed)
-    round_changed new listed good less told still within_listed =
+    round_changed new listed good less addresses still within_listed =
         record {
           good = good;
           others = λ place within. elim (on.others place within) [
             | inl waits ↦ elim (later place waits) [
-              | inl same ↦ inr (inr (subst (At new) same told))
+              | inl same ↦ inr (inr (subst (At new) same addresses))
               | inr rest ↦ inl rest
             ]
             | inr other ↦ elim other [

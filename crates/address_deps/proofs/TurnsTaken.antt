@@ -12,8 +12,8 @@ use Rattle.net_model.specs.Nearest.{is_top, server_named}
 use Rattle.net_model.specs.Step.{has_glue, may_follow}
 use Rattle.graph_form.specs.declared.node.Branch.TheVariants.{Go}
 use Rattle.address_deps.specs.Giving.{IsTurnOf}
-use Rattle.address_deps.specs.Told.{AreServers}
-use Rattle.address_deps.specs.declared.told.Turn.TheVariants.{Fails, Waits}
+use Rattle.address_deps.specs.Addresses.{AreServers}
+use Rattle.address_deps.specs.declared.addresses.Turn.TheVariants.{Fails, Waits}
 use Rattle.address_deps.proofs.Followed.{configured_among}
 
 module _ (config : Config) (cut : Cut) (to : ℕ) where

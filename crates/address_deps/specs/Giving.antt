@@ -15,11 +15,11 @@ use Rattle.net_model.specs.Step.{may_follow}
 use Rattle.graph_form.specs.Graph.{PlainGraph, branches_of}
 use Rattle.graph_form.specs.declared.node.Branch.{Branch}
 use Rattle.graph_form.specs.declared.node.Branch.TheVariants.{Go, End}
-use Rattle.address_deps.specs.Told.{AreServers, gives_from, turn_gives}
+use Rattle.address_deps.specs.Addresses.{AreServers, gives_from, turn_gives}
 use Rattle.address_deps.specs.declared.server_set.Followed.{Followed}
 use Rattle.address_deps.specs.declared.server_set.Followed.TheVariants.{Configured, Named}
-use Rattle.address_deps.specs.declared.told.AddressPaths.{AddressPaths}
-use Rattle.address_deps.specs.declared.told.Turn.{Turn}
+use Rattle.address_deps.specs.declared.addresses.AddressPaths.{AddressPaths}
+use Rattle.address_deps.specs.declared.addresses.Turn.{Turn}
 
 -- the names of the servers that are followed
 abbrev pub names_followed : Config → Followed → List Labels

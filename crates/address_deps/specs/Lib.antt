@@ -1,7 +1,7 @@
 pub use Rattle.net_model.specs.Learnt
 pub use Rattle.graph_form.specs.GraphOf
+pub mod Addresses
 pub mod Dependents
 pub mod Direction
 pub mod Giving
 pub mod Sets
-pub mod Told

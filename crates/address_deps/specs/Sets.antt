@@ -8,8 +8,8 @@ use Rattle.net_model.specs.Learnt.{IsGreatest, IsLeast, Learns}
 use Rattle.net_model.specs.Nearest.{server_names}
 use Rattle.net_model.specs.Step.{following}
 use Rattle.address_deps.specs.Giving.{unset}
-use Rattle.address_deps.specs.Told.{AreServers, AreTold}
-use Rattle.address_deps.specs.declared.told.AddressTold.{AddressTold}
+use Rattle.address_deps.specs.Addresses.{AreServers, AreAddresses}
+use Rattle.address_deps.specs.declared.addresses.AddressLearnt.{AddressLearnt}
 
 -- how many servers aren't in the list
 abbrev pub absent : List Server → List Labels → ℕ
@@ -32,35 +32,35 @@ abbrev pub AreAbove : Config → ℕ → List Labels → Type 0
 AreAbove config rewrites followed = (learnt : List Labels) → IsGreatest config rewrites learnt → Within learnt followed
 
 -- The search for the least set: each name that was added is in it.
-pub record IsGrowing (config : Config) (told : List AddressTold) (learnt : List Labels) : Type 0 where
+pub record IsGrowing (config : Config) (addresses : List AddressLearnt) (learnt : List Labels) : Type 0 where
   pub servers : AreServers config learnt
-  pub below : (rewrites : ℕ) → AreTold config rewrites told → AreBelow config rewrites learnt
+  pub below : (rewrites : ℕ) → AreAddresses config rewrites addresses → AreBelow config rewrites learnt
 
 -- no server more can be learnt
-abbrev pub NoneMoreLearnt : Config → List AddressTold → List Labels → Type 0
-NoneMoreLearnt config told learnt =
-    (rewrites : ℕ) → AreTold config rewrites told → (name : Labels) → Contains (server_names config) name
+abbrev pub NoneMoreLearnt : Config → List AddressLearnt → List Labels → Type 0
+NoneMoreLearnt config addresses learnt =
+    (rewrites : ℕ) → AreAddresses config rewrites addresses → (name : Labels) → Contains (server_names config) name
     → Learns (following config rewrites learnt) name → is_among learnt name ≡ true
 
 -- The search for the greatest set: it is among the names that are left.
-pub record IsShrinking (config : Config) (told : List AddressTold) (known : List Labels) : Type 0 where
+pub record IsShrinking (config : Config) (addresses : List AddressLearnt) (known : List Labels) : Type 0 where
   pub servers : AreServers config known
-  pub above : (rewrites : ℕ) → AreTold config rewrites told → AreAbove config rewrites known
+  pub above : (rewrites : ℕ) → AreAddresses config rewrites addresses → AreAbove config rewrites known
 
 -- the address of each server of the list can be learnt while the servers of the list are followed
-abbrev pub AreLearnt : Config → List AddressTold → List Labels → Type 0
-AreLearnt config told known =
-    (rewrites : ℕ) → AreTold config rewrites told → (name : Labels) → Contains (server_names config) name
+abbrev pub AreLearnt : Config → List AddressLearnt → List Labels → Type 0
+AreLearnt config addresses known =
+    (rewrites : ℕ) → AreAddresses config rewrites addresses → (name : Labels) → Contains (server_names config) name
     → is_among known name ≡ true → Learns (following config rewrites known) name
 
 -- the server at the place is in the list, or can't be learnt
-abbrev pub NoneMoreLearntAt : Config → List AddressTold → List Labels → ℕ → Type 0
-NoneMoreLearntAt config told names place =
-    (rewrites : ℕ) (server : Server) → AreTold config rewrites told → slice_get config.servers place ≡ Some server
+abbrev pub NoneMoreLearntAt : Config → List AddressLearnt → List Labels → ℕ → Type 0
+NoneMoreLearntAt config addresses names place =
+    (rewrites : ℕ) (server : Server) → AreAddresses config rewrites addresses → slice_get config.servers place ≡ Some server
     → Learns (following config rewrites names) server.name → is_among names server.name ≡ true
 
 -- the server at the place isn't in the list, or can be learnt
-abbrev pub IsLearntAt : Config → List AddressTold → List Labels → ℕ → Type 0
-IsLearntAt config told names place =
-    (rewrites : ℕ) (server : Server) → AreTold config rewrites told → slice_get config.servers place ≡ Some server
+abbrev pub IsLearntAt : Config → List AddressLearnt → List Labels → ℕ → Type 0
+IsLearntAt config addresses names place =
+    (rewrites : ℕ) (server : Server) → AreAddresses config rewrites addresses → slice_get config.servers place ≡ Some server
     → is_among names server.name ≡ true → Learns (following config rewrites names) server.name

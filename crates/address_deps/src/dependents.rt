@@ -4,9 +4,9 @@ ghost use Rattle.std.specs.Prelude.{◌≡◌, ◌++◌, ◌∷◌, [], true, fa
 ghost use Rattle.std.specs.List.{flat_map};
 ghost use Rattle.dns_data.specs.Listed.{places_of};
 ghost use Rattle.zone_lookup.specs.ListedFor.{IsListedFor};
-ghost use Rattle.address_deps.specs.Dependents.{AreDependents, told_awaits, turn_awaits, turns_await};
+ghost use Rattle.address_deps.specs.Dependents.{AreDependents, address_awaits, turn_awaits, turns_await};
 
-use crate::told::{AddressTold, Turn};
+use crate::addresses::{AddressLearnt, Turn};
 use dns_data::{List, Name, NoMemory};
 use std::alloc::Global;
 use std::collections::BTreeMap;
@@ -22,14 +22,14 @@ pub(crate) struct Dependents {
 impl Dependents {
     /// Who waits for each name server's address, by what tells whether the servers' own are learnt. Each turn is passed
     /// over once.
-    pub(crate) fn of(alloc: Global, told: &[AddressTold<'_>]) -> Result<Dependents, NoMemory>
-        ensures { IfOk result (λ dependents. AreDependents told.now (length told.now) dependents.places) }
+    pub(crate) fn of(alloc: Global, addresses: &[AddressLearnt<'_>]) -> Result<Dependents, NoMemory>
+        ensures { IfOk result (λ dependents. AreDependents addresses.now (length addresses.now) dependents.places) }
     {
         let mut dependents = Dependents {
             places: BTreeMap::new(alloc),
         };
-        for place in 0..told.len() {
-            let names = names_for(alloc, &told[place])?;
+        for place in 0..addresses.len() {
+            let names = names_for(alloc, &addresses[place])?;
             dependents.put_all(alloc, names.as_slice(), place)?;
         }
         Ok(dependents)
@@ -74,11 +74,11 @@ fn is_last(listed: &[usize], place: usize) -> bool
 }
 
 /// The names of the name servers for whose addresses a server waits, by what tells whether its own is learnt.
-fn names_for<'a>(alloc: Global, told: &AddressTold<'a>) -> Result<Vec<&'a Name>, NoMemory>
-    ensures { IfOk result (λ names. map (λ name. name.now) names.items ≡ told_awaits told.now) }
+fn names_for<'a>(alloc: Global, address: &AddressLearnt<'a>) -> Result<Vec<&'a Name>, NoMemory>
+    ensures { IfOk result (λ names. map (λ name. name.now) names.items ≡ address_awaits address.now) }
 {
     let mut names = Vec::new(alloc);
-    if let AddressTold::ByPaths(paths) = told {
+    if let AddressLearnt::ByPaths(paths) = address {
         put_nodes(paths.four.items(), &mut names)?;
         put_nodes(paths.six.items(), &mut names)?;
     }

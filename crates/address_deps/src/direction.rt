@@ -6,10 +6,10 @@ ghost use Rattle.dns_data.specs.Listed.{places_of};
 ghost use Rattle.address_deps.specs.Dependents.{AreAllPlaces, AreDependents};
 ghost use Rattle.address_deps.specs.Direction.{IsFair, IsMoved, IsRoundOf, IsSettledAt, adds, unmoved};
 
+use crate::addresses::AddressLearnt;
 use crate::dependents::Dependents;
 use crate::giving::learns;
 use crate::server_set::ServerSet;
-use crate::told::AddressTold;
 use dns_data::{List, Name, NoMemory};
 use std::alloc::Global;
 use zone_lookup::Hosts;
@@ -51,24 +51,24 @@ impl Direction {
 pub(crate) fn settled(
     alloc: Global,
     hosts: &Hosts<'_>,
-    told: &[AddressTold<'_>],
+    addresses: &[AddressLearnt<'_>],
     dependents: &Dependents,
     direction: Direction,
     begun: ServerSet,
 ) -> Result<ServerSet, NoMemory>
-    requires many { length told.now ≡ length hosts.now.servers }
-    requires dependents { AreDependents told.now (length told.now) dependents.now.places }
-    requires fair { IsFair direction hosts.now told.now begun }
-    ensures fair { IfOk result (IsFair direction hosts.now told.now) }
-    ensures settled { IfOk result (λ names. (place : ℕ) → place < length told.now → IsSettledAt direction hosts.now told.now names place) }
+    requires many { length addresses.now ≡ length hosts.now.servers }
+    requires dependents { AreDependents addresses.now (length addresses.now) dependents.now.places }
+    requires fair { IsFair direction hosts.now addresses.now begun }
+    ensures fair { IfOk result (IsFair direction hosts.now addresses.now) }
+    ensures settled { IfOk result (λ names. (place : ℕ) → place < length addresses.now → IsSettledAt direction hosts.now addresses.now names place) }
 {
     let mut names = begun;
-    let mut waiting = all_places(alloc, told)?;
+    let mut waiting = all_places(alloc, addresses)?;
     while !waiting.items().is_empty() {
         waiting = round(
             alloc,
             hosts,
-            told,
+            addresses,
             dependents,
             direction,
             waiting.items(),
@@ -79,11 +79,11 @@ pub(crate) fn settled(
 }
 
 /// The places of all servers.
-fn all_places(alloc: Global, told: &[AddressTold<'_>]) -> Result<List<usize>, NoMemory>
-    ensures { IfOk result (AreAllPlaces (length told.now)) }
+fn all_places(alloc: Global, addresses: &[AddressLearnt<'_>]) -> Result<List<usize>, NoMemory>
+    ensures { IfOk result (AreAllPlaces (length addresses.now)) }
 {
     let mut places = List::new(alloc);
-    for place in 0..told.len() {
+    for place in 0..addresses.len() {
         places.push(place)?;
     }
     Ok(places)
@@ -93,22 +93,22 @@ fn all_places(alloc: Global, told: &[AddressTold<'_>]) -> Result<List<usize>, No
 fn round(
     alloc: Global,
     hosts: &Hosts<'_>,
-    told: &[AddressTold<'_>],
+    addresses: &[AddressLearnt<'_>],
     dependents: &Dependents,
     direction: Direction,
     waiting: &[usize],
     names: &mut ServerSet,
 ) -> Result<List<usize>, NoMemory>
-    requires many { length told.now ≡ length hosts.now.servers }
-    requires dependents { AreDependents told.now (length told.now) dependents.now.places }
-    requires round { IsRoundOf direction hosts.now told.now names.old waiting.now }
-    ensures round { IfOk result (IsRoundOf direction hosts.now told.now names.new) }
+    requires many { length addresses.now ≡ length hosts.now.servers }
+    requires dependents { AreDependents addresses.now (length addresses.now) dependents.now.places }
+    requires round { IsRoundOf direction hosts.now addresses.now names.old waiting.now }
+    ensures round { IfOk result (IsRoundOf direction hosts.now addresses.now names.new) }
     ensures fewer { IfOk result (λ next. (length next == 0) ≡ false → unmoved direction hosts.now.servers names.new < unmoved direction hosts.now.servers names.old) }
     ensures no_more { OnOk result (unmoved direction hosts.now.servers names.new ≤ unmoved direction hosts.now.servers names.old) }
 {
     let mut next = List::new(alloc);
     for place in waiting {
-        if move_at(alloc, hosts, told, direction, *place, names)? {
+        if move_at(alloc, hosts, addresses, direction, *place, names)? {
             wake(hosts, dependents, *place, &mut next)?;
         }
     }
@@ -119,18 +119,18 @@ fn round(
 fn move_at(
     alloc: Global,
     hosts: &Hosts<'_>,
-    told: &[AddressTold<'_>],
+    addresses: &[AddressLearnt<'_>],
     direction: Direction,
     place: usize,
     names: &mut ServerSet,
 ) -> Result<bool, NoMemory>
-    requires many { length told.now ≡ length hosts.now.servers }
-    requires within { place < length told.now }
-    requires fair { IsFair direction hosts.now told.now names.old }
-    ensures fair { OnOk result (IsFair direction hosts.now told.now names.new) }
+    requires many { length addresses.now ≡ length hosts.now.servers }
+    requires within { place < length addresses.now }
+    requires fair { IsFair direction hosts.now addresses.now names.old }
+    ensures fair { OnOk result (IsFair direction hosts.now addresses.now names.new) }
     ensures fewer { IfOk result (λ moved. moved ≡ true → unmoved direction hosts.now.servers names.new < unmoved direction hosts.now.servers names.old) }
     ensures same { IfOk result (λ moved. moved ≡ false → names.new ≡ names.old) }
-    ensures settled { IfOk result (λ moved. moved ≡ false → IsSettledAt direction hosts.now told.now names.old place) }
+    ensures settled { IfOk result (λ moved. moved ≡ false → IsSettledAt direction hosts.now addresses.now names.old place) }
     ensures moved { IfOk result (λ moved. moved ≡ true → (server : Server) → slice_get hosts.now.servers place ≡ Some server
         → IsMoved direction server.name names.old names.new) }
 {
@@ -138,7 +138,7 @@ fn move_at(
     if names.has(name) == direction.adds() {
         return Ok(false);
     }
-    if learns(alloc, hosts, &told[place], names)? != direction.adds() {
+    if learns(alloc, hosts, &addresses[place], names)? != direction.adds() {
         return Ok(false);
     }
     direction.change(alloc, name, names)?;

@@ -1,29 +1,29 @@
-//! Whether an address of a server's name can be learnt, by what is told of the name.
+//! Whether an address of a server's name can be learnt while some servers are followed.
 
 ghost use Rattle.std.specs.Prelude.{◌≡◌, ◌↔◌, ◌⊎◌, ◌<◌, true, false, length, slice_get, List, Some, IfOk};
 ghost use Rattle.std.specs.List.{list_any};
-ghost use Rattle.address_deps.specs.Told.{PathGives, Tells, turn_gives};
+ghost use Rattle.address_deps.specs.Addresses.{PathGives, IsLearnt, turn_gives};
 ghost use Rattle.address_deps.specs.Giving.{AreComplete, AreGiving, is_marked, names_followed, unmarked};
-ghost use Rattle.address_deps.specs.declared.told.Turn.{Turn as TurnOf};
+ghost use Rattle.address_deps.specs.declared.addresses.Turn.{Turn as TurnOf};
 
+use crate::addresses::{AddressLearnt, AddressPaths, Turn};
 use crate::server_set::{Followed, ServerSet};
-use crate::told::{AddressPaths, AddressTold, Turn};
 use dns_data::{List, NoMemory};
 use std::alloc::Global;
 use zone_lookup::Hosts;
 
-/// Whether an address of a server's name can be learnt while these servers are followed, by what is told of the name.
+/// Whether an address of a server's name can be learnt while these servers are followed.
 pub(crate) fn learns(
     alloc: Global,
     hosts: &Hosts<'_>,
-    told: &AddressTold<'_>,
+    address: &AddressLearnt<'_>,
     followed: &ServerSet,
 ) -> Result<bool, NoMemory>
-    ensures { IfOk result (λ learns. (learns ≡ true) ↔ Tells followed.now told.now) }
+    ensures { IfOk result (λ learns. (learns ≡ true) ↔ IsLearnt followed.now address.now) }
 {
-    match told {
-        AddressTold::Known(learnt) => Ok(*learnt),
-        AddressTold::ByPaths(paths) => {
+    match address {
+        AddressLearnt::Known(learnt) => Ok(*learnt),
+        AddressLearnt::ByPaths(paths) => {
             learns_by_paths(alloc, hosts, paths, &Followed::Named(followed))
         }
     }

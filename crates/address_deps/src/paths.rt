@@ -7,12 +7,12 @@ ghost use Rattle.net_model.specs.Nearest.{server_names};
 ghost use Rattle.net_model.specs.Step.{following};
 ghost use Rattle.graph_form.specs.declared.node.Branch.TheVariants.{Go};
 ghost use Rattle.graph_form.specs.GraphOf.{IsGraphOf};
-ghost use Rattle.address_deps.specs.Told.{IsToldOf};
+ghost use Rattle.address_deps.specs.Addresses.{IsAddressOf};
 ghost use Rattle.address_deps.specs.Giving.{AreTurnsOf, ArePathsOf, IsTurnOf};
 
+use crate::addresses::{AddressLearnt, AddressPaths, Turn};
 use crate::giving::learns_by_paths;
 use crate::server_set::{Followed, ServerSet};
-use crate::told::{AddressPaths, AddressTold, Turn};
 use dns_data::{List, NoMemory, RrType};
 use graph_form::{Branch, Graph};
 use net_model::Hop;
@@ -21,23 +21,23 @@ use zone_lookup::{Hosts, gives_address};
 
 /// What the graph of a server's name, made while every configured server is followed, tells of its address. Where none
 /// needs to be followed, or it isn't learnt though all are, nothing else is kept; nor is the graph needed any more.
-pub fn told_by<'a>(
+pub fn learnt_by_graph<'a>(
     alloc: Global,
     hosts: &Hosts<'a>,
     graph: &Graph,
-) -> Result<AddressTold<'a>, NoMemory>
-    ensures { IfOk result (λ told. (rewrites : ℕ) (name : Labels)
-        → IsGraphOf (following hosts.now rewrites (server_names hosts.now)) name graph.now → IsToldOf hosts.now rewrites name told) }
+) -> Result<AddressLearnt<'a>, NoMemory>
+    ensures { IfOk result (λ address. (rewrites : ℕ) (name : Labels)
+        → IsGraphOf (following hosts.now rewrites (server_names hosts.now)) name graph.now → IsAddressOf hosts.now rewrites name address) }
 {
     let paths = paths_of(alloc, hosts, graph)?;
     let none = ServerSet::new(alloc);
     if learns_by_paths(alloc, hosts, &paths, &Followed::Named(&none))? {
-        return Ok(AddressTold::Known(true));
+        return Ok(AddressLearnt::Known(true));
     }
     if !learns_by_paths(alloc, hosts, &paths, &Followed::Configured)? {
-        return Ok(AddressTold::Known(false));
+        return Ok(AddressLearnt::Known(false));
     }
-    Ok(AddressTold::ByPaths(paths))
+    Ok(AddressLearnt::ByPaths(paths))
 }
 
 /// The paths of the graph that may give an address.

@@ -6,12 +6,12 @@ ghost use Rattle.dns_data.specs.Name.{Labels, is_among};
 ghost use Rattle.net_model.specs.Learnt.{IsLeast, IsGreatest};
 ghost use Rattle.net_model.specs.Nearest.{server_names};
 ghost use Rattle.address_deps.specs.Dependents.{AreDependents};
-ghost use Rattle.address_deps.specs.Told.{AreTold};
+ghost use Rattle.address_deps.specs.Addresses.{AreAddresses};
 
+use crate::addresses::AddressLearnt;
 use crate::dependents::Dependents;
 use crate::direction::{Direction, settled};
 use crate::server_set::ServerSet;
-use crate::told::AddressTold;
 use dns_data::{List, Name, NoMemory};
 use graph_form::Deps;
 use net_model::Config;
@@ -19,36 +19,36 @@ use std::alloc::Global;
 use zone_lookup::Hosts;
 
 /// The least and the greatest set of learnt addresses of a configuration, each in the order of the configured servers, by
-/// what is told of the servers' names, in their order. The trees of all zones are built for it: where they are built
-/// already, call `dependencies_among`.
+/// what the graphs of the servers' names tell, in their order. The trees of all zones are built for it: where they are
+/// built already, call `dependencies_among`.
 pub fn dependencies(
     alloc: Global,
     config: &Config,
-    told: &[AddressTold<'_>],
+    addresses: &[AddressLearnt<'_>],
 ) -> Result<Deps, NoMemory>
-    requires { length told.now ≡ length config.now.servers }
-    ensures least { IfOk result (λ deps. (rewrites : ℕ) → AreTold config.now rewrites told.now → IsLeast config.now rewrites deps.least) }
-    ensures greatest { IfOk result (λ deps. (rewrites : ℕ) → AreTold config.now rewrites told.now → IsGreatest config.now rewrites deps.greatest) }
+    requires { length addresses.now ≡ length config.now.servers }
+    ensures least { IfOk result (λ deps. (rewrites : ℕ) → AreAddresses config.now rewrites addresses.now → IsLeast config.now rewrites deps.least) }
+    ensures greatest { IfOk result (λ deps. (rewrites : ℕ) → AreAddresses config.now rewrites addresses.now → IsGreatest config.now rewrites deps.greatest) }
 {
     let hosts = Hosts::build(alloc, config)?;
-    dependencies_among(alloc, &hosts, told)
+    dependencies_among(alloc, &hosts, addresses)
 }
 
 /// The least and the greatest set of learnt addresses among these servers, each in the order of the configured servers, by
-/// what is told of the servers' names, in their order.
+/// what the graphs of the servers' names tell, in their order.
 pub fn dependencies_among(
     alloc: Global,
     hosts: &Hosts<'_>,
-    told: &[AddressTold<'_>],
+    addresses: &[AddressLearnt<'_>],
 ) -> Result<Deps, NoMemory>
-    requires { length told.now ≡ length hosts.now.servers }
-    ensures least { IfOk result (λ deps. (rewrites : ℕ) → AreTold hosts.now rewrites told.now → IsLeast hosts.now rewrites deps.least) }
-    ensures greatest { IfOk result (λ deps. (rewrites : ℕ) → AreTold hosts.now rewrites told.now → IsGreatest hosts.now rewrites deps.greatest) }
+    requires { length addresses.now ≡ length hosts.now.servers }
+    ensures least { IfOk result (λ deps. (rewrites : ℕ) → AreAddresses hosts.now rewrites addresses.now → IsLeast hosts.now rewrites deps.least) }
+    ensures greatest { IfOk result (λ deps. (rewrites : ℕ) → AreAddresses hosts.now rewrites addresses.now → IsGreatest hosts.now rewrites deps.greatest) }
 {
-    let dependents = Dependents::of(alloc, told)?;
+    let dependents = Dependents::of(alloc, addresses)?;
     Ok(Deps {
-        least: least(alloc, hosts, told, &dependents)?,
-        greatest: greatest(alloc, hosts, told, &dependents)?,
+        least: least(alloc, hosts, addresses, &dependents)?,
+        greatest: greatest(alloc, hosts, addresses, &dependents)?,
     })
 }
 
@@ -56,15 +56,15 @@ pub fn dependencies_among(
 fn least(
     alloc: Global,
     hosts: &Hosts<'_>,
-    told: &[AddressTold<'_>],
+    addresses: &[AddressLearnt<'_>],
     dependents: &Dependents,
 ) -> Result<List<Name>, NoMemory>
-    requires many { length told.now ≡ length hosts.now.servers }
-    requires dependents { AreDependents told.now (length told.now) dependents.now.places }
-    ensures { IfOk result (λ least. (rewrites : ℕ) → AreTold hosts.now rewrites told.now → IsLeast hosts.now rewrites least) }
+    requires many { length addresses.now ≡ length hosts.now.servers }
+    requires dependents { AreDependents addresses.now (length addresses.now) dependents.now.places }
+    ensures { IfOk result (λ least. (rewrites : ℕ) → AreAddresses hosts.now rewrites addresses.now → IsLeast hosts.now rewrites least) }
 {
     let none = ServerSet::new(alloc);
-    let learnt = settled(alloc, hosts, told, dependents, Direction::Adding, none)?;
+    let learnt = settled(alloc, hosts, addresses, dependents, Direction::Adding, none)?;
     in_order(alloc, hosts, &learnt)
 }
 
@@ -72,15 +72,22 @@ fn least(
 fn greatest(
     alloc: Global,
     hosts: &Hosts<'_>,
-    told: &[AddressTold<'_>],
+    addresses: &[AddressLearnt<'_>],
     dependents: &Dependents,
 ) -> Result<List<Name>, NoMemory>
-    requires many { length told.now ≡ length hosts.now.servers }
-    requires dependents { AreDependents told.now (length told.now) dependents.now.places }
-    ensures { IfOk result (λ greatest. (rewrites : ℕ) → AreTold hosts.now rewrites told.now → IsGreatest hosts.now rewrites greatest) }
+    requires many { length addresses.now ≡ length hosts.now.servers }
+    requires dependents { AreDependents addresses.now (length addresses.now) dependents.now.places }
+    ensures { IfOk result (λ greatest. (rewrites : ℕ) → AreAddresses hosts.now rewrites addresses.now → IsGreatest hosts.now rewrites greatest) }
 {
     let all = all_servers(alloc, hosts)?;
-    let known = settled(alloc, hosts, told, dependents, Direction::Dropping, all)?;
+    let known = settled(
+        alloc,
+        hosts,
+        addresses,
+        dependents,
+        Direction::Dropping,
+        all,
+    )?;
     in_order(alloc, hosts, &known)
 }
 

@@ -125,18 +125,18 @@ module _ (setting : Setting) (state : State) where
 
 -- ---- the arms of a graph
 
-told_hop : (graph : PlainGraph) (branch : Branch) (told : step.Branch) → TellsStep graph branch told → hop_of branch ≡ step_hop told
-told_hop graph (Go hop to) told tells = sym (ap step_hop tells.1)
-told_hop graph (End hop leaf) told tells = sym (ap step_hop tells)
+same_hop : (graph : PlainGraph) (branch : Branch) (told : step.Branch) → TellsStep graph branch told → hop_of branch ≡ step_hop told
+same_hop graph (Go hop to) told tells = sym (ap step_hop tells.1)
+same_hop graph (End hop leaf) told tells = sym (ap step_hop tells)
 
-told_hops : (graph : PlainGraph) (branches : List Branch) (steps : List step.Branch) → AllZip (TellsStep graph) branches steps
+same_hops : (graph : PlainGraph) (branches : List Branch) (steps : List step.Branch) → AllZip (TellsStep graph) branches steps
     → map hop_of branches ≡ map step_hop steps
-told_hops graph [] [] tell = refl
-told_hops graph [] (one ∷ steps) tell = absurd tell
-told_hops graph (branch ∷ branches) [] tell = absurd tell
-told_hops graph (branch ∷ branches) (one ∷ steps) tell =
-    ap (λ (hop : Option Hop). hop ∷ map hop_of branches) (told_hop graph branch one tell.0)
-    ∙ ap (λ (hops : List (Option Hop)). step_hop one ∷ hops) (told_hops graph branches steps tell.1)
+same_hops graph [] [] tell = refl
+same_hops graph [] (one ∷ steps) tell = absurd tell
+same_hops graph (branch ∷ branches) [] tell = absurd tell
+same_hops graph (branch ∷ branches) (one ∷ steps) tell =
+    ap (λ (hop : Option Hop). hop ∷ map hop_of branches) (same_hop graph branch one tell.0)
+    ∙ ap (λ (hops : List (Option Hop)). step_hop one ∷ hops) (same_hops graph branches steps tell.1)
 
 -- the branches of each arm of the graph of a query in the configuration are the referrals of one zone cut, or none is one
 pub graph_refers : (config : Config) (setting : Setting) (query : Labels) (graph : PlainGraph) → IsGraphIn config setting query graph → GraphRefers config graph
@@ -144,5 +144,5 @@ graph_refers config setting query graph for = λ node has arm has_arm rtype type
     let (at, here) = place_of_item graph.nodes node has in
     let tell : AllZip (TellsStep graph) arm.branches (next setting rtype node.state) =
     for.is_graph.steps at node arm rtype (record { is_node = here; has_arm = has_arm }) typed in
-    subst (RefersByOne config) (sym (told_hops graph arm.branches (next setting rtype node.state) tell))
+    subst (RefersByOne config) (sym (same_hops graph arm.branches (next setting rtype node.state) tell))
     (subst (λ (c : Config). RefersByOne c (map step_hop (next setting rtype node.state))) for.config_is (next_refers setting node.state rtype))

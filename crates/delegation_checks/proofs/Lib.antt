@@ -1,3 +1,3 @@
 mod ArmsRefer
 mod DelegationsShown
-mod ToldBranches
+mod FlaggedBranches

@@ -75,22 +75,22 @@ first_cut (None ∷ hops) = None
 first_cut (Some (Rewrite place by_dname to) ∷ hops) = None
 first_cut (Some (Refer cut) ∷ hops) = Some cut
 
--- ---- what is told of branches
+-- ---- the faults of branches by flags
 
 -- the faults that flags tell of the hop's zone cut, if it is a referral
-abbrev pub hop_told : CutFlags → Hop → List Fault
-hop_told flags (Refer cut) = faults_by flags cut
-hop_told flags (Rewrite place by_dname to) = []
+abbrev pub hop_faults_by : CutFlags → Hop → List Fault
+hop_faults_by flags (Refer cut) = faults_by flags cut
+hop_faults_by flags (Rewrite place by_dname to) = []
 
 -- the faults that flags tell of the branch
-abbrev pub faults_told : CutFlags → Branch → List Fault
-faults_told flags branch = option_map_or (hop_told flags) (hop_of branch) []
+abbrev pub branch_faults_by : CutFlags → Branch → List Fault
+branch_faults_by flags branch = option_map_or (hop_faults_by flags) (hop_of branch) []
 
 -- the flags tell the faults of the branch
-abbrev pub IsTold : Config → Deps → Branch → CutFlags → Type 0
-IsTold config deps branch flags = faults_told flags branch ≡ branch_faults config deps branch
+abbrev pub IsFlagged : Config → Deps → Branch → CutFlags → Type 0
+IsFlagged config deps branch flags = branch_faults_by flags branch ≡ branch_faults config deps branch
 
--- what is told of branches is of each what its faults are; where nothing is told, they have none
-abbrev pub AreTold : Config → Deps → List Branch → Option (List CutFlags) → Type 0
-AreTold config deps branches (Some told) = AllZip (IsTold config deps) branches told
-AreTold config deps branches None = AllByRecursion (λ branch. branch_faults config deps branch ≡ []) branches
+-- the flags tell the faults of each branch; where there are none, the branches have no faults
+abbrev pub AreFlagged : Config → Deps → List Branch → Option (List CutFlags) → Type 0
+AreFlagged config deps branches (Some flags) = AllZip (IsFlagged config deps) branches flags
+AreFlagged config deps branches None = AllByRecursion (λ branch. branch_faults config deps branch ≡ []) branches

@@ -3,7 +3,7 @@
 ghost use Rattle.std.specs.Prelude.{◌≡◌, ◌++◌, map, true, Some, IfOk, OnOk};
 ghost use Rattle.std.specs.List.{AllZip, flat_map};
 ghost use Rattle.std.specs.Option.{option_copied, option_map};
-ghost use Rattle.delegation_checks.specs.Referrals.{ArmRefers, AreTold, GraphRefers, IsTold, NodeRefers, RefersByOne, branch_faults, faults_told, first_cut, typed_faults};
+ghost use Rattle.delegation_checks.specs.Referrals.{ArmRefers, AreFlagged, GraphRefers, IsFlagged, NodeRefers, RefersByOne, branch_faults, branch_faults_by, first_cut, typed_faults};
 ghost use Rattle.graph_form.specs.Branches.{arm_branches, branch_seen, hop_of, node_branches, seen_by, with_type};
 ghost use Rattle.net_model.specs.Nearest.{held_zone};
 ghost use Rattle.net_model.specs.Zone.{exists_in};
@@ -12,7 +12,7 @@ ghost use Rattle.net_model.specs.declared.config.Zone.{Zone};
 ghost use Rattle.net_model.specs.declared.deps.Deps.{Deps};
 ghost use Rattle.net_model.specs.declared.walk.State.{State};
 ghost use Rattle.zone_lookup.specs.CutFlags.{faults_by};
-ghost use Rattle.zone_lookup.specs.CutTable.{IsTableOf, IsToldOf, referrals_at};
+ghost use Rattle.zone_lookup.specs.CutTable.{IsTableOf, AreCutFlags, referrals_at};
 
 use dns_data::{List, NoMemory, RrType};
 use graph_form::{Arm, Branch, Graph, Node, Seen};
@@ -70,25 +70,25 @@ fn put_arm(
         return Ok(());
     };
     let branches = arm.branches.items();
-    match told_of(hosts, table, branches) {
-        Some(told) => put_told(alloc, branches, told, rtype, seen),
+    match flags_of_branches(hosts, table, branches) {
+        Some(all_flags) => put_branches(alloc, branches, all_flags, rtype, seen),
         None => Ok(()),
     }
 }
 
-/// Puts the faults that are told of branches, one beside the other, behind those seen, with the type.
-fn put_told(
+/// Puts the faults of branches behind those seen, with the type. The flags of each stand beside it.
+fn put_branches(
     alloc: Global,
     branches: &[Branch],
-    told: &[CutFlags],
+    all_flags: &[CutFlags],
     rtype: RrType,
     seen: &mut List<Seen>,
 ) -> Result<(), NoMemory>
-    ensures { OnOk result ((config : Config) (deps : Deps) → AllZip (IsTold config deps) branches.now told.now
+    ensures { OnOk result ((config : Config) (deps : Deps) → AllZip (IsFlagged config deps) branches.now all_flags.now
         → seen.new ≡ seen.old ++ flat_map (typed_faults config deps rtype) branches.now) }
 {
     for (place, branch) in branches.iter().enumerate() {
-        if let Some(flags) = told.get(place) {
+        if let Some(flags) = all_flags.get(place) {
             put_branch(alloc, branch, flags, rtype, seen)?;
         }
     }
@@ -103,7 +103,7 @@ fn put_branch(
     rtype: RrType,
     seen: &mut List<Seen>,
 ) -> Result<(), NoMemory>
-    ensures { OnOk result (seen.new ≡ seen.old ++ with_type rtype (faults_told flags.now branch.now)) }
+    ensures { OnOk result (seen.new ≡ seen.old ++ with_type rtype (branch_faults_by flags.now branch.now)) }
 {
     if flags.is_quiet() {
         return Ok(());
@@ -139,32 +139,32 @@ fn put_faults(faults: List<Fault>, rtype: RrType, seen: &mut List<Seen>) -> Resu
     Ok(())
 }
 
-/// What the table tells of branches that refer by one zone cut, in their order; `None` where there is nothing to tell.
-fn told_of<'t>(
+/// The flags of branches that refer by one zone cut, in their order; `None` where they show no fault.
+fn flags_of_branches<'t>(
     hosts: &Hosts<'_>,
     table: &'t CutTable<'_>,
     branches: &[Branch],
 ) -> Option<&'t [CutFlags]>
     ensures { (deps : Deps) → IsTableOf hosts.now deps table.now → RefersByOne hosts.now (map hop_of branches.now)
-        → AreTold hosts.now deps branches.now (option_map (λ told. told.now) result) }
+        → AreFlagged hosts.now deps branches.now (option_map (λ flags. flags.now) result) }
 {
     match first_cut(branches) {
-        Some(cut) => told_at(hosts, table, cut),
+        Some(cut) => flags_of_cut(hosts, table, cut),
         None => None,
     }
 }
 
-/// What the table tells of the zone cut of a referral, one for each of its name servers, in their order; `None` where there
-/// is nothing to tell.
-fn told_at<'t>(hosts: &Hosts<'_>, table: &'t CutTable<'_>, cut: &Cut) -> Option<&'t [CutFlags]>
+/// The flags of the zone cut of a referral, one for each of its name servers, in their order; `None` where they show no
+/// fault.
+fn flags_of_cut<'t>(hosts: &Hosts<'_>, table: &'t CutTable<'_>, cut: &Cut) -> Option<&'t [CutFlags]>
     ensures { (deps : Deps) (zone : Zone) → IsTableOf hosts.now deps table.now → held_zone hosts.now cut.now.server cut.now.zone ≡ Some zone
         → exists_in zone cut.now.cut ≡ true
-        → IsToldOf hosts.now deps (referrals_at cut.now.server zone cut.now.cut) (option_map (λ told. told.now) result) }
+        → AreCutFlags hosts.now deps (referrals_at cut.now.server zone cut.now.cut) (option_map (λ flags. flags.now) result) }
 {
     let tree = hosts.held_zone(&cut.server, &cut.zone)?;
     let node = tree.node_at(&cut.cut)?;
     let near = hosts.near_of(&cut.server, &cut.zone);
-    table.told(near, &cut.server, tree, node)
+    table.flags(near, &cut.server, tree, node)
 }
 
 /// The zone cut of the first branch, if that is a referral.

@@ -6,7 +6,7 @@ use Rattle.std.proofs.lemmas.List.Elements.{Contains-get_or}
 use Rattle.std.proofs.lemmas.List.Folds.{list_any-append}
 use Rattle.dns_data.specs.Name.{Labels, is_among, name_eq}
 use Rattle.dns_data.proofs.Searches.{any_has}
-use Rattle.plain_resolver.specs.Told.{IsPartOf}
+use Rattle.plain_resolver.specs.KnownNames.{IsPartOf}
 
 -- a name is among those with one more if it is among them or is that one
 among_one : (names : List Labels) (last name : Labels) → is_among (names ++ last ∷ []) name ≡ (is_among names name || (name_eq name last || false))

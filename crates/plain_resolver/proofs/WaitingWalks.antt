@@ -22,7 +22,7 @@ use Rattle.net_model.specs.Nearest.{is_configured, is_top, nearest_of}
 use Rattle.net_model.specs.Step.{Setting, Branch, Go, End, following, may_follow, has_glue, delegated, referred, after_lookup, in_zone, next, start}
 use Rattle.net_model.specs.Walk.{IsWalk, branched, led_on, walk_along, walk_from}
 use Rattle.plain_resolver.specs.Passed.{HasMoreWalks}
-use Rattle.plain_resolver.specs.Told.{IsPartOf}
+use Rattle.plain_resolver.specs.KnownNames.{IsPartOf}
 
 -- what holds of each item for one property holds of each for one that follows from it
 pub each_so : {X : Type 0} {P Q : X → Type 0} → ((x : X) → P x → Q x) → (xs : List X) → AllByRecursion P xs → AllByRecursion Q xs

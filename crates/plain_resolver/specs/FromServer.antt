@@ -25,7 +25,7 @@ AreWalksFrom setting state rtype walks =
     (paths : List (List ℕ)) × ArePathsFrom setting state rtype paths
     × (map (λ numbers. walk_from setting rtype numbers state) paths ≡ map Some walks)
 
--- there are more walks from the state than so many, each told by its numbers
+-- there are more walks from the state than so many, each known by its numbers
 abbrev pub HasMoreWalksFrom : Setting → State → RrType → ℕ → Type 0
 HasMoreWalksFrom setting state rtype most = HasMoreThan (λ numbers. IsSome (walk_from setting rtype numbers state)) most
 

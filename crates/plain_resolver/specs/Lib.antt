@@ -3,8 +3,8 @@ pub use Rattle.net_model.specs.Walk
 pub mod Asked
 pub mod Begun
 pub mod FromServer
+pub mod KnownNames
 pub mod Passed
 pub mod Shown
 pub mod Tested
-pub mod Told
 pub mod WalkEnds

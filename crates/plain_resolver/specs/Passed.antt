@@ -10,7 +10,7 @@ use Rattle.net_model.specs.Step.{Setting, following}
 use Rattle.net_model.specs.Tree.{HasMoreThan}
 use Rattle.net_model.specs.Walk.{walk_along}
 
--- the query has more walks than so many, each told by its numbers
+-- the query has more walks than so many, each known by its numbers
 abbrev pub HasMoreWalks : Setting → Labels → RrType → ℕ → Type 0
 HasMoreWalks setting query rtype most = HasMoreThan (λ numbers. IsSome (walk_along setting query rtype numbers)) most
 

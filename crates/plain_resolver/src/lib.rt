@@ -15,11 +15,11 @@
 mod begun;
 mod fault;
 mod first_state;
+mod known_names;
 mod resolver;
 mod rounds;
 mod steps;
 mod tested;
-mod told;
 mod visitor;
 mod walk_end;
 mod walks;

@@ -7,13 +7,13 @@ ghost use Rattle.net_model.specs.Learnt.{AfterRounds};
 ghost use Rattle.net_model.specs.Nearest.{server_names};
 ghost use Rattle.plain_resolver.specs.Passed.{HasTooMany, NoneInRounds, IsFirstWithTooMany};
 ghost use Rattle.plain_resolver.specs.Shown.{HasMore, ShownAll};
-ghost use Rattle.plain_resolver.specs.Told.{IsFirstOf, StaysTold, StaysUnlessNew, names_learnt, names_told, seen_after, told_of};
+ghost use Rattle.plain_resolver.specs.KnownNames.{IsFirstOf, StaysKnown, StaysUnlessNew, names_learnt, names_known, seen_after, known_of};
 ghost use Rattle.zone_lookup.specs.Resting.{Rests};
 ghost use Rattle.zone_lookup.specs.Tops.{StandsForTops};
 
 use crate::fault::{LearntFault, ResolveFault};
+use crate::known_names::{FollowedNames, KnownName, WaitList};
 use crate::resolver::Resolver;
-use crate::told::{FollowedNames, ToldName, WaitList};
 use crate::visitor::AddressSeen;
 use crate::walks::visit_walks;
 use dns_data::{List, Name, NoMemory, RrType};
@@ -61,10 +61,10 @@ pub fn learnt_at(
     let config = hosts.config();
     let tops = TopServers::unlike(alloc, hosts)?;
     let mut followed = FollowedNames::first(alloc, from.copy(alloc)?);
-    let mut tolds = never_told(alloc, config)?;
+    let mut known = nothing_known(alloc, config)?;
     for _round in 0..config.servers().len() {
-        tolds = told_while(alloc, hosts, &tops, rewrites, &followed, tolds, most)?;
-        let learnt = names_learnt(alloc, tolds.items())?;
+        known = known_while(alloc, hosts, &tops, rewrites, &followed, known, most)?;
+        let learnt = names_learnt(alloc, known.items())?;
         if learnt == followed.names {
             return Ok(learnt);
         }
@@ -73,63 +73,63 @@ pub fn learnt_at(
     Ok(followed.names)
 }
 
-/// The servers' names, of which nothing was told yet.
-fn never_told(alloc: Global, config: &Config) -> Result<List<ToldName>, NoMemory>
-    ensures { IfOk result (λ tolds. names_told tolds ≡ server_names config.now) }
+/// The servers' names, of which nothing is known yet.
+fn nothing_known(alloc: Global, config: &Config) -> Result<List<KnownName>, NoMemory>
+    ensures { IfOk result (λ known. names_known known ≡ server_names config.now) }
 {
-    let mut tolds = List::new(alloc);
+    let mut known = List::new(alloc);
     for server in config.servers() {
-        tolds.push(ToldName {
+        known.push(KnownName {
             name: server.name.copy(alloc)?,
             learnt: false,
             waits: WaitList::new(alloc),
         })?;
     }
-    Ok(tolds)
+    Ok(known)
 }
 
-/// What is told of the names while these are followed, in their order, by what was told before.
-fn told_while(
+/// What is known of the names while these are followed, in their order, by what was known before.
+fn known_while(
     alloc: Global,
     hosts: &Hosts<'_>,
     tops: &TopServers<'_>,
     rewrites: u32,
     followed: &FollowedNames,
-    tolds: List<ToldName>,
+    known: List<KnownName>,
     most: u32,
-) -> Result<List<ToldName>, LearntFault>
+) -> Result<List<KnownName>, LearntFault>
     requires tops { StandsForTops hosts.now tops.now }
-    requires before { AllByRecursion (StaysUnlessNew hosts.now rewrites most followed.now) tolds }
-    ensures names { IfOk result (λ now. names_told now ≡ names_told tolds) }
-    ensures told { IfOk result (AllByRecursion (StaysTold hosts.now rewrites most followed.now.names)) }
-    ensures passed { (name : Labels) → IsErrOf result (LearntFault.WalksPassed name) → IsFirstOf hosts.now rewrites most followed.now.names (names_told tolds) name }
+    requires before { AllByRecursion (StaysUnlessNew hosts.now rewrites most followed.now) known }
+    ensures names { IfOk result (λ now. names_known now ≡ names_known known) }
+    ensures known { IfOk result (AllByRecursion (StaysKnown hosts.now rewrites most followed.now.names)) }
+    ensures passed { (name : Labels) → IsErrOf result (LearntFault.WalksPassed name) → IsFirstOf hosts.now rewrites most followed.now.names (names_known known) name }
 {
     let mut now = List::new(alloc);
-    for told in tolds {
-        now.push(told_again(alloc, hosts, tops, rewrites, followed, told, most)?)?;
+    for one in known {
+        now.push(known_again(alloc, hosts, tops, rewrites, followed, one, most)?)?;
     }
     Ok(now)
 }
 
-/// What is told of a name while these are followed: what was told before, where nothing of what it waits for is followed
+/// What is known of a name while these are followed: what was known before, where nothing of what it waits for is followed
 /// newly; else it is asked for.
-fn told_again(
+fn known_again(
     alloc: Global,
     hosts: &Hosts<'_>,
     tops: &TopServers<'_>,
     rewrites: u32,
     followed: &FollowedNames,
-    told: ToldName,
+    one: KnownName,
     most: u32,
-) -> Result<ToldName, LearntFault>
+) -> Result<KnownName, LearntFault>
     requires tops { StandsForTops hosts.now tops.now }
-    requires before { StaysUnlessNew hosts.now rewrites most followed.now told }
-    ensures name { IfOk result (λ now. now.name ≡ told.name) }
-    ensures told { IfOk result (StaysTold hosts.now rewrites most followed.now.names) }
-    ensures passed { (other : Labels) → IsErrOf result (LearntFault.WalksPassed other) → (told.name ≡ other) × HasTooMany hosts.now rewrites most followed.now.names told.name }
+    requires before { StaysUnlessNew hosts.now rewrites most followed.now one }
+    ensures name { IfOk result (λ now. now.name ≡ one.name) }
+    ensures known { IfOk result (StaysKnown hosts.now rewrites most followed.now.names) }
+    ensures passed { (other : Labels) → IsErrOf result (LearntFault.WalksPassed other) → (one.name ≡ other) × HasTooMany hosts.now rewrites most followed.now.names one.name }
 {
-    if told.waits.has_nothing_new(followed) {
-        return Ok(told);
+    if one.waits.has_nothing_new(followed) {
+        return Ok(one);
     }
     let seen = asked(
         alloc,
@@ -137,23 +137,23 @@ fn told_again(
         tops,
         rewrites,
         followed.names.items(),
-        &told.name,
+        &one.name,
         most,
     )?;
-    Ok(ToldName {
-        name: told.name,
+    Ok(KnownName {
+        name: one.name,
         learnt: seen.gives,
         waits: seen.waits,
     })
 }
 
-/// The names of those that were told to be learnt, in their order.
-fn names_learnt(alloc: Global, tolds: &[ToldName]) -> Result<List<Name>, NoMemory>
-    ensures { IfOk result (λ learnt. learnt ≡ names_learnt tolds.now) }
+/// The names of those that are known to be learnt, in their order.
+fn names_learnt(alloc: Global, known: &[KnownName]) -> Result<List<Name>, NoMemory>
+    ensures { IfOk result (λ learnt. learnt ≡ names_learnt known.now) }
 {
     let mut learnt = List::new(alloc);
-    for told in tolds {
-        put_if(alloc, &mut learnt, &told.name, told.learnt)?;
+    for one in known {
+        put_if(alloc, &mut learnt, &one.name, one.learnt)?;
     }
     Ok(learnt)
 }
@@ -180,7 +180,7 @@ fn asked(
     most: u32,
 ) -> Result<AddressSeen, LearntFault>
     requires { StandsForTops hosts.now tops.now }
-    ensures told { IfOk result (λ seen. StaysTold hosts.now rewrites most followed.now (told_of name.now seen)) }
+    ensures known { IfOk result (λ seen. StaysKnown hosts.now rewrites most followed.now (known_of name.now seen)) }
     ensures passed { (other : Labels) → IsErrOf result (LearntFault.WalksPassed other) → (name.now ≡ other) × HasTooMany hosts.now rewrites most followed.now name.now }
 {
     match learnt_within(alloc, hosts, tops, name, most)? {
@@ -199,8 +199,8 @@ fn learnt_within(
     most: u32,
 ) -> Result<Option<bool>, NoMemory>
     requires { StandsForTops hosts.now tops.now }
-    ensures rests { IfOk result (λ told. IfSome told (Rests hosts.now name.now)) }
-    ensures few { IfOk result (λ told. IfSome told (λ learnt. (rewrites : ℕ) (followed : Items Labels) → HasTooMany hosts.now rewrites most followed name.now → ⊥)) }
+    ensures rests { IfOk result (λ found. IfSome found (Rests hosts.now name.now)) }
+    ensures few { IfOk result (λ found. IfSome found (λ learnt. (rewrites : ℕ) (followed : Items Labels) → HasTooMany hosts.now rewrites most followed name.now → ⊥)) }
 {
     if hosts.config().tops().len() > most as usize {
         return Ok(None);
@@ -218,7 +218,7 @@ fn seen_by_walks(
     name: &Name,
     most: u32,
 ) -> Result<AddressSeen, LearntFault>
-    ensures told { IfOk result (λ seen. StaysTold hosts.now rewrites most followed.now (told_of name.now seen)) }
+    ensures known { IfOk result (λ seen. StaysKnown hosts.now rewrites most followed.now (known_of name.now seen)) }
     ensures passed { (other : Labels) → IsErrOf result (LearntFault.WalksPassed other) → (name.now ≡ other) × HasTooMany hosts.now rewrites most followed.now name.now }
 {
     let mut seen = AddressSeen::new(alloc, false);

@@ -3,11 +3,11 @@
 ghost use Rattle.std.specs.Prelude.{◌≡◌, ◌++◌, ◌∷◌, [], OnOk};
 ghost use Rattle.net_model.specs.declared.walk.Walk.{Walk};
 ghost use Rattle.plain_resolver.specs.Begun.{ended};
-ghost use Rattle.plain_resolver.specs.Told.{no_waits, seen_after};
+ghost use Rattle.plain_resolver.specs.KnownNames.{no_waits, seen_after};
 ghost use Rattle.plain_resolver.specs.WalkEnds.{end_of, zone_ends_of};
 
 use crate::begun::BegunWalk;
-use crate::told::WaitList;
+use crate::known_names::WaitList;
 use crate::walk_end::{WalkEnd, ZoneEnd, is_authoritative};
 use dns_data::{Boxed, List, NoMemory};
 use net_model::{Hop, Leaf, Walk};
@@ -110,7 +110,7 @@ pub(crate) struct AddressSeen {
 }
 
 impl Model for AddressSeen {
-    ghost use Rattle.plain_resolver.specs.Told.{Seen};
+    ghost use Rattle.plain_resolver.specs.KnownNames.{Seen};
 
     ghost Value = { Seen };
 

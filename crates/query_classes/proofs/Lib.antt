@@ -1,3 +1,4 @@
+pub mod BelowChildren
 pub mod ChildLists
 pub mod ClassLaws
 pub mod ClassLists
@@ -10,7 +11,6 @@ pub mod NamesBelow
 pub mod Partition
 pub mod ReadsDecided
 pub mod SameGrounds
-pub mod ToldBelow
 pub mod TreeItems
 pub mod TreeRows
 pub mod TreeWalk

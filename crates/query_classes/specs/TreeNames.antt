@@ -15,11 +15,11 @@ pub record AreBaseNamesOf (basis graph : Ground) : Type 0 where
 abbrev pub IsLiveIn : Ground → Labels → List ℕ → Type 0
 IsLiveIn basis name places = (graph : Ground) → AreBaseNamesOf basis graph → IsLiveSet graph name places
 
--- what is told holds of each name at or below this one
-abbrev pub IsToldBelow : (Labels → Type 0) → Labels → Type 0
-IsToldBelow told above = (name : Labels) → is_prefix above name ≡ true → told name
+-- the statement holds of each name at or below this one
+abbrev pub HoldsBelow : (Labels → Type 0) → Labels → Type 0
+HoldsBelow holds above = (name : Labels) → is_prefix above name ≡ true → holds name
 
--- the name has its live set, and if all is told, what is told holds of each name at or below it
-pub record IsTreeName (basis : Ground) (told : Labels → Type 0) (all_told : Bool) (found : LiveName) : Type 0 where
+-- the name has its live set, and with the mark the statement holds of each name at or below it
+pub record IsTreeName (basis : Ground) (holds : Labels → Type 0) (all_hold : Bool) (found : LiveName) : Type 0 where
   pub live : IsLiveIn basis found.name found.live
-  pub told_below : all_told ≡ true → IsToldBelow told found.name
+  pub below : all_hold ≡ true → HoldsBelow holds found.name

@@ -4,8 +4,8 @@
 //! The layer above may rest on this: each name is in the one class that `class_of` answers; a class that isn't empty
 //! has a representative, which is in it and no longer than any of its names; of a named name all prefixes are named.
 //! `class_tree` lists the names of the class tree at or below a name in order, each with the representative of the class
-//! below it; and `TreeName` is such a name as an item of a work, whose children are those of the tree. What is told of all
-//! names at or below an item is told of all at or below its children, which keep the mark that says so.
+//! below it; and `TreeName` is such a name as an item of a work, whose children are those of the tree. What holds of all
+//! names at or below an item holds of all at or below its children, which keep the mark that says so.
 //!
 //! Costs: a name is walked label by label from the root. A live name keeps its live set, so that the names below it are
 //! one step away; the whole tree takes two steps for each of its names, since they are counted before a row is made, and

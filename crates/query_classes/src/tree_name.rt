@@ -1,7 +1,7 @@
 //! Names of the class tree, as the items of a work.
 
 ghost use Rattle.std.specs.Prelude.{◌≡◌, true, map, All, IfOk};
-ghost use Rattle.query_classes.specs.TreeNames.{AreBaseNamesOf, IsLiveIn, IsToldBelow, IsTreeName};
+ghost use Rattle.query_classes.specs.TreeNames.{AreBaseNamesOf, IsLiveIn, HoldsBelow, IsTreeName};
 ghost use Rattle.query_classes.specs.Children.{AreChildren};
 
 use crate::live_name::LiveName;
@@ -13,11 +13,12 @@ use std::cmp::Ordering;
 use std::marker::{Model, PhantomData};
 
 /// A name of the class tree of a ground with its live set, so that it isn't walked to again, and with a mark, where what
-/// may be told is told of each name at or below it. Contracts see the name, and names are ordered as `Name` orders them.
+/// may hold of names holds of each name at or below it. Contracts see the name, and names are ordered as `Name` orders
+/// them.
 #[derive(Drop)]
 pub struct TreeName<G: OnGround> {
     found: LiveName,
-    all_told: bool,
+    all_hold: bool,
     of: PhantomData<G>,
 }
 
@@ -29,7 +30,7 @@ impl<G: OnGround> Model for TreeName<G> {
 
     ghost view = { λ item. item.found.name };
 
-    ghost invariant = { λ item. IsTreeName G.ground G.told item.all_told item.found };
+    ghost invariant = { λ item. IsTreeName G.ground G.holds item.all_hold item.found };
 }
 
 impl<G: OnGround> TreeName<G> {
@@ -43,13 +44,13 @@ impl<G: OnGround> TreeName<G> {
     }
 
     /// The item of a name with its live set, and with the mark where that is said.
-    fn of(found: LiveName, all_told: bool) -> TreeName<G>
-        requires { IsTreeName G.ground G.told all_told found }
+    fn of(found: LiveName, all_hold: bool) -> TreeName<G>
+        requires { IsTreeName G.ground G.holds all_hold found }
         ensures { result ≡ found.name }
     {
         TreeName {
             found,
-            all_told,
+            all_hold,
             of: PhantomData,
         }
     }
@@ -62,11 +63,11 @@ impl<G: OnGround> TreeName<G> {
         &self.found
     }
 
-    /// Whether it has the mark: what may be told is told of each name at or below it.
-    pub fn is_told_below(&self) -> bool
-        ensures { result ≡ true → IsToldBelow G.told self.now }
+    /// Whether it has the mark: what may hold of names holds of each name at or below it.
+    pub fn holds_below(&self) -> bool
+        ensures { result ≡ true → HoldsBelow G.holds self.now }
     {
-        self.all_told
+        self.all_hold
     }
 
     /// The names of the class tree one label below, in order, all with the mark where that is said.
@@ -74,14 +75,14 @@ impl<G: OnGround> TreeName<G> {
         &self,
         alloc: Global,
         graph: &LabelGraph,
-        all_told: bool,
+        all_hold: bool,
     ) -> Result<List<TreeName<G>>, NoMemory>
         requires base { AreBaseNamesOf G.ground graph.now }
-        requires told { all_told ≡ true → IsToldBelow G.told self.now }
+        requires hold { all_hold ≡ true → HoldsBelow G.holds self.now }
         ensures { IfOk result (AreChildren G.ground self.now) }
     {
         let found = self.found.children(alloc, graph)?;
-        items_of(alloc, found, all_told)
+        items_of(alloc, found, all_hold)
     }
 
     /// An equal item, with the mark where this one has it.
@@ -90,7 +91,7 @@ impl<G: OnGround> TreeName<G> {
     {
         let name = self.found.name.copy(alloc)?;
         let live = self.found.live.copy(alloc)?;
-        Ok(TreeName::of(LiveName { name, live }, self.all_told))
+        Ok(TreeName::of(LiveName { name, live }, self.all_hold))
     }
 
     /// The name alone.
@@ -107,14 +108,14 @@ impl<G: OnGround> TreeName<G> {
 fn items_of<G: OnGround>(
     alloc: Global,
     found: List<LiveName>,
-    all_told: bool,
+    all_hold: bool,
 ) -> Result<List<TreeName<G>>, NoMemory>
-    requires { All (IsTreeName G.ground G.told all_told) found }
+    requires { All (IsTreeName G.ground G.holds all_hold) found }
     ensures { IfOk result (λ items. items ≡ map (λ one. one.name) found) }
 {
     let mut items = Vec::with_capacity(alloc, found.len())?;
     for one in found {
-        items.push(TreeName::of(one, all_told))?;
+        items.push(TreeName::of(one, all_hold))?;
     }
     Ok(List::from_vec(items))
 }

@@ -46,7 +46,7 @@ module _ (config : Config) (rewrites states : ℕ) (above : Labels) (label : Lis
     (built : IsBuilt config rewrites (above ++ label ∷ []) graph) (is_open : IsOpenGraph config label graph most) (is_name : IsName (above ++ label ∷ []))
     (few : PassesStates config rewrites states (above ++ label ∷ []) → ⊥) (told : List Seen) (are : AreFaultsOf config rewrites states (above ++ label ∷ []) told)
     (of_walks : list_all (λ (seen : Seen). is_of_walks seen.fault) told ≡ true) where
-  -- each of the faults is one that isn't told of a class or of its representative alone
+  -- each of the faults is one that isn't a class's or its representative's alone
   each_of_walks : (fault : Fault) → Contains (map (λ (seen : Seen). seen.fault) told) fault → is_of_walks fault ≡ true
   each_of_walks fault has =
       let there = from_map (λ (seen : Seen). seen.fault) told fault has in
@@ -149,12 +149,12 @@ module _ (config : Config) (rewrites states : ℕ) (above : Labels) (label : Lis
       subst (λ (q : Labels). IsClassVerdict config rewrites states q (Faults told) × WalksLike (limited_to config rewrites states) (above ++ label ∷ []) q)
       (sym fit.is) (alike_verdict fit.first fit.rest fits, alike_walks fit.first fit.rest fits)
 
--- so it is told of copies of the names
-pub told_of_copy : (config : Config) (rewrites states : ℕ) (above : Labels) (label : List ℕ) (query : Labels) (graph : PlainGraph) (most : ℕ) → query ≡ above ++ label ∷ []
+-- so it is with copies of the names
+pub alike_copy : (config : Config) (rewrites states : ℕ) (above : Labels) (label : List ℕ) (query : Labels) (graph : PlainGraph) (most : ℕ) → query ≡ above ++ label ∷ []
     → IsBuilt config rewrites query graph → IsOpenGraph config label graph most → IsName query → (PassesStates config rewrites states query → ⊥) → (told : List Seen)
     → AreFaultsOf config rewrites states query told → list_all (λ (seen : Seen). is_of_walks seen.fault) told ≡ true → most ≤ 255 → (copy like : Labels) (octets : ℕ)
     → copy ≡ above → like ≡ query → octets ≡ wire_octets above → IsAlikeBelow config rewrites states (record { above = copy; like = like; octets = 255 + octets - most; shown = told })
-told_of_copy config rewrites states above label query graph most is built is_open is_name few told are of_walks within copy like octets same own counted =
+alike_copy config rewrites states above label query graph most is built is_open is_name few told are of_walks within copy like octets same own counted =
     subst (λ (name : Labels). IsAlikeBelow config rewrites states (record { above = copy; like = name; octets = 255 + octets - most; shown = told })) (sym (own ∙ is))
     (subst₂ (λ (name : Labels) (count : ℕ). IsAlikeBelow config rewrites states (record { above = name; like = above ++ label ∷ []; octets = 255 + count - most; shown = told })) (sym same) (sym counted)
     (alike_below config rewrites states above label graph most (subst (λ (q : Labels). IsBuilt config rewrites q graph) is built) is_open (subst IsName is is_name)

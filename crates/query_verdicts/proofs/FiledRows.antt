@@ -17,8 +17,8 @@ use Rattle.query_verdicts.specs.TreeVerdicts.{AreInTreeOrder, AreTreeRows, AreTr
 use Rattle.query_verdicts.specs.declared.verdict.NameVerdict.{NameVerdict}
 use Rattle.query_verdicts.proofs.Rising.{rises}
 
-module _ {W C : Type 0} {ground : Ground} {above : Labels} {IsTold : Labels → C → Type 0} {children_of : Labels → List Labels} {verdict_of : Labels → NameVerdict C}
-    (closed : IsClosed ground) (in_tree : IsInTree ground above) (values : AreTreeValues ground IsTold children_of verdict_of)
+module _ {W C : Type 0} {ground : Ground} {above : Labels} {IsVerdictOf : Labels → C → Type 0} {children_of : Labels → List Labels} {verdict_of : Labels → NameVerdict C}
+    (closed : IsClosed ground) (in_tree : IsInTree ground above) (values : AreTreeValues ground IsVerdictOf children_of verdict_of)
     (filed : List (TreeRow W C)) (tree : IsWholeTree name_cmp above children_of verdict_of filed) where
   abbrev item : TreeRow W C → Labels
   item row = row.item
@@ -39,13 +39,13 @@ module _ {W C : Type 0} {ground : Ground} {above : Labels} {IsTold : Labels → 
       let (place, at) = (tree.reached.each name).0 (part_reached ground above children_of values.children closed name is) in
       let (within, there) = at_number (row_names filed) place name at in (place, within, there name)
 
-  verdict_right : (row : TreeRow W C) → Contains filed row → IsVerdictAt ground IsTold row.item row.verdict
+  verdict_right : (row : TreeRow W C) → Contains filed row → IsVerdictAt ground IsVerdictOf row.item row.verdict
   verdict_right row has =
       let judged : row.verdict ≡ verdict_of row.item = All-contains (Judges verdict_of) filed row tree.verdicts has in
-      subst (IsVerdictAt ground IsTold row.item) (sym judged) (values.verdicts row.item (item_in_part row.item (map_has item filed row has)).is_name)
+      subst (IsVerdictAt ground IsVerdictOf row.item) (sym judged) (values.verdicts row.item (item_in_part row.item (map_has item filed row has)).is_name)
 
   -- what is filed in a whole work are the rows of the class tree
-  pub rows_of_whole : AreTreeRows ground above IsTold filed
+  pub rows_of_whole : AreTreeRows ground above IsVerdictOf filed
   rows_of_whole =
       record {
         ordered = strictly;
@@ -53,5 +53,5 @@ module _ {W C : Type 0} {ground : Ground} {above : Labels} {IsTold : Labels → 
           ordered = pairs_of_images item (λ a b. name_cmp a b ≡ Less) filed strictly;
           all = λ name. (item_in_part name, tree_filed name);
         };
-        verdicts = all_from_contains (λ (row : TreeRow W C). IsVerdictAt ground IsTold row.item row.verdict) filed verdict_right;
+        verdicts = all_from_contains (λ (row : TreeRow W C). IsVerdictAt ground IsVerdictOf row.item row.verdict) filed verdict_right;
       }

@@ -1,4 +1,4 @@
--- Where nothing is told of a name, no fault is found.
+-- Where the verdict of a name says nothing, no fault is found.
 use Rattle.std.proofs.Common.{◌≡◌, ◌++◌, [], Option, Some, None, refl, ap, ◌∙◌}
 use Rattle.std.specs.Prelude.{IfSome}
 use Rattle.query_verdicts.specs.FiledVerdict.{TellsNothing}

@@ -30,8 +30,8 @@ use Rattle.query_verdicts.proofs.FirstWalksShow.{shows_with}
 module _ {W : Type 0} (subject : Subject) (states : ℕ) (rows : List (TreeRow W ClassVerdict)) (are : AreRows subject states rows)
     (none : NonePasses subject states) (followed : List Labels) (in_force : IsInForce subject.config subject.rewrites followed) where
   -- the faults of the classes of a row
-  abbrev told_at : TreeRow W ClassVerdict → List ClassFault
-  told_at row = found_at row.item row.verdict
+  abbrev found_in_row : TreeRow W ClassVerdict → List ClassFault
+  found_in_row row = found_at row.item row.verdict
 
   abbrev found : Class → Seen → ClassFault
   found class seen = record { seen = seen; class = class }
@@ -82,13 +82,13 @@ module _ {W : Type 0} (subject : Subject) (states : ℕ) (rows : List (TreeRow W
 
   -- each fault that is found in the rows of a subject's tree is one that its class's representative shows
   pub found_is_right : (one : ClassFault) → Contains (found_of rows) one → IsRightFound subject one
-  found_is_right one has = by (from_flat_map told_at rows one has) where
+  found_is_right one has = by (from_flat_map found_in_row rows one has) where
     of_below : (row : TreeRow W ClassVerdict) → Contains rows row → (below : Option ClassVerdict) → IsBelowVerdict subject states row.item below
         → Contains (found_below row.item below) one → IsRightFound subject one
     of_below row among None none inside = absurd (none_in_nil one inside)
     of_below row among (Some verdict) (query, represents, is) inside = right_in (Below row.item) query verdict (below_class row among) represents is one inside
 
-    by : (row : TreeRow W ClassVerdict) × Contains rows row × Contains (told_at row) one → IsRightFound subject one
+    by : (row : TreeRow W ClassVerdict) × Contains rows row × Contains (found_in_row row) one → IsRightFound subject one
     by (row, among, inside) =
         let right : IsNameVerdict subject states row.item row.verdict = verdict_at row among in
         elim (Contains-append_cases (found_in (Exact row.item) row.verdict.exact) (found_below row.item row.verdict.below) one inside) [
@@ -110,8 +110,8 @@ module _ {W : Type 0} (subject : Subject) (states : ℕ) (rows : List (TreeRow W
       let (seen, among, same) = from_map (λ (s : Seen). s.fault) shown fault (all.all_shown fault rtype refl (shows_in query rtype fault shows)) in
       (found class seen, map_has (found class) shown seen among, (same, refl))
 
-  in_rows : (row : TreeRow W ClassVerdict) → Contains rows row → (one : ClassFault) → Contains (told_at row) one → Contains (found_of rows) one
-  in_rows row has one inside = flat_map_has told_at rows row one has inside
+  in_rows : (row : TreeRow W ClassVerdict) → Contains rows row → (one : ClassFault) → Contains (found_in_row row) one → Contains (found_of rows) one
+  in_rows row has one inside = flat_map_has found_in_row rows row one has inside
 
   -- each fault that the representative of a class shows is found in the rows, with this class
   pub shown_is_found : (class : Class) (query : Labels) (rtype : RrType) (fault : Fault)

@@ -31,7 +31,7 @@ pub mod ReportPassed
 pub mod Rising
 pub mod RowSearch
 pub mod RowSizes
-pub mod ServersTold
+pub mod ServerAddresses
 pub mod ShowsDecided
 pub mod StraightVerdicts
 pub mod TreeValues

@@ -10,20 +10,20 @@ use Rattle.query_classes.proofs.Decided.{Decided}
 use Rattle.query_verdicts.specs.TreeVerdicts.{IsVerdictAt, IsVerdictBelow}
 use Rattle.query_verdicts.specs.declared.verdict.NameVerdict.{NameVerdict}
 
--- ---- each name has a verdict, where something is told of each name, and it is decided whether a class has a
+-- ---- each name has a verdict, where each query has one, and it is decided whether a class has a
 -- representative
 
-module _ {C : Type 0} (ground : Ground) (IsTold : Labels → C → Type 0) (nothing : C) (told_exists : (query : Labels) → IsName query → (told : C) × IsTold query told)
+module _ {C : Type 0} (ground : Ground) (IsVerdictOf : Labels → C → Type 0) (nothing : C) (verdict_exists : (query : Labels) → IsName query → (verdict : C) × IsVerdictOf query verdict)
     (decided : (above : Labels) → IsName above → Decided ((query : Labels) × IsRepresentative ground (Below above) query)) where
-  below_exists : (above : Labels) → IsName above → (below : Option C) × IsVerdictBelow ground IsTold above below
+  below_exists : (above : Labels) → IsName above → (below : Option C) × IsVerdictBelow ground IsVerdictOf above below
   below_exists above is = by (decided above is) where
-    by : Decided ((query : Labels) × IsRepresentative ground (Below above) query) → (below : Option C) × IsVerdictBelow ground IsTold above below
+    by : Decided ((query : Labels) × IsRepresentative ground (Below above) query) → (below : Option C) × IsVerdictBelow ground IsVerdictOf above below
     by (inr none) = (None, λ query stands. none (query, stands))
-    by (inl (query, stands)) = let (told, right) = told_exists query stands.is_name in (Some told, (query, stands, right))
+    by (inl (query, stands)) = let (verdict, right) = verdict_exists query stands.is_name in (Some verdict, (query, stands, right))
 
-  exists : (name : Labels) → IsName name → (verdict : NameVerdict C) × IsVerdictAt ground IsTold name verdict
+  exists : (name : Labels) → IsName name → (verdict : NameVerdict C) × IsVerdictAt ground IsVerdictOf name verdict
   exists name is =
-      let (exact, right) = told_exists name is in
+      let (exact, right) = verdict_exists name is in
       let (below, also) = below_exists name is in
       (record { exact = exact; below = below }, record { exact = right; below = also })
 
@@ -31,33 +31,33 @@ module _ {C : Type 0} (ground : Ground) (IsTold : Labels → C → Type 0) (noth
   by_test name true e = (exists name (is_name_tells name e)).0
   by_test name false e = record { exact = nothing; below = None }
 
-  -- the verdict of a name; of what isn't a name nothing is told
+  -- the verdict of a name; of what isn't a name it says nothing
   pub verdict_of : Labels → NameVerdict C
   verdict_of name = by_test name (is_name name) refl
 
-  tested : (name : Labels) (test : Bool) (e : is_name name ≡ test) → IsName name → IsVerdictAt ground IsTold name (by_test name test e)
+  tested : (name : Labels) (test : Bool) (e : is_name name ≡ test) → IsName name → IsVerdictAt ground IsVerdictOf name (by_test name test e)
   unfolding by_test
   tested name true e is = (exists name (is_name_tells name e)).1
   tested name false e is = let told : is_name name ≡ true = is_name_told name is in absurd (true≢false (sym told ∙ e))
 
   -- the verdict that is computed for a name is the name's verdict
-  pub verdict_is : (name : Labels) → IsName name → IsVerdictAt ground IsTold name (verdict_of name)
+  pub verdict_is : (name : Labels) → IsName name → IsVerdictAt ground IsVerdictOf name (verdict_of name)
   unfolding verdict_of
   verdict_is name is = tested name (is_name name) refl is
 
--- ---- a name has one verdict, where one thing is told of each
+-- ---- a name has one verdict, where each query has one
 
-module _ {C : Type 0} (ground : Ground) (IsTold : Labels → C → Type 0) (one_told : (query : Labels) (a b : C) → IsTold query a → IsTold query b → a ≡ b) where
-  one_below : (above : Labels) (a b : Option C) → IsVerdictBelow ground IsTold above a → IsVerdictBelow ground IsTold above b → a ≡ b
+module _ {C : Type 0} (ground : Ground) (IsVerdictOf : Labels → C → Type 0) (one_of_each : (query : Labels) (a b : C) → IsVerdictOf query a → IsVerdictOf query b → a ≡ b) where
+  one_below : (above : Labels) (a b : Option C) → IsVerdictBelow ground IsVerdictOf above a → IsVerdictBelow ground IsVerdictOf above b → a ≡ b
   one_below above None None one other = refl
-  one_below above None (Some told) none (query, represents, is) = absurd (none query represents)
-  one_below above (Some told) None (query, represents, is) none = absurd (none query represents)
+  one_below above None (Some verdict) none (query, represents, is) = absurd (none query represents)
+  one_below above (Some verdict) None (query, represents, is) none = absurd (none query represents)
   one_below above (Some a) (Some b) (query, represents, is) (also, stands, other) =
       let same : also ≡ query = one_representative ground (Below above) also query stands represents in
-      ap (λ (told : C). Some told) (one_told query a b is (subst (λ (name : Labels). IsTold name b) same other))
+      ap (λ (verdict : C). Some verdict) (one_of_each query a b is (subst (λ (name : Labels). IsVerdictOf name b) same other))
 
   -- a name has one verdict
-  pub one_name_verdict : (name : Labels) (a b : NameVerdict C) → IsVerdictAt ground IsTold name a → IsVerdictAt ground IsTold name b → a ≡ b
+  pub one_name_verdict : (name : Labels) (a b : NameVerdict C) → IsVerdictAt ground IsVerdictOf name a → IsVerdictAt ground IsVerdictOf name b → a ≡ b
   one_name_verdict name a b one other =
-      ap (λ (told : C). record a { exact = told }) (one_told name a.exact b.exact one.exact other.exact)
+      ap (λ (verdict : C). record a { exact = verdict }) (one_of_each name a.exact b.exact one.exact other.exact)
       ∙ ap (λ (below : Option C). record b { below = below }) (one_below name a.below b.below one.below other.below)

@@ -46,7 +46,7 @@ use Rattle.walk_laws.proofs.WalksAlike.OpenBack.{open_back}
 use Rattle.walk_laws.proofs.WalksAlike.OpenWalks.{AllOpen, OpensAt, item_there, open_walks}
 use Rattle.query_verdicts.specs.AlikeBelow.{HasNoneBelow, IsOpenGraph, IsOpenState}
 use Rattle.query_verdicts.specs.Verdict.{PassesStates}
-use Rattle.query_verdicts.proofs.QuietBelow.{told_of_all, told_with_tail}
+use Rattle.query_verdicts.proofs.QuietBelow.{holds_of_all, holds_with_tail}
 
 -- ---- lists
 
@@ -78,8 +78,8 @@ module _ (config : Config) (above : Labels) (none : NoOriginBelow config above) 
   -- each server looks them up in the zone of that one
   near_above : (tail server : Labels) → nearest_of config server (above ++ tail) ≡ nearest_of config server above
   near_above tail =
-      told_with_tail (λ (name : Labels). (server : Labels) → nearest_of config server name ≡ nearest_of config server above) above
-      (told_of_all config (λ (name : Labels). (server : Labels) → nearest_of config server name ≡ nearest_of config server above) above none
+      holds_with_tail (λ (name : Labels). (server : Labels) → nearest_of config server name ≡ nearest_of config server above) above
+      (holds_of_all config (λ (name : Labels). (server : Labels) → nearest_of config server name ≡ nearest_of config server above) above none
       (λ name between server. same_nearest config above name between server)) tail
 
   -- and where that zone has no name there either, each tail is open

@@ -79,7 +79,7 @@ greater_by a b false false is = record { first = omega (arith, ltb-false b a is)
 pub greater_is : (a b : ℕ) → IsGreater a b (ord_max nat_cmp a b)
 greater_is a b = greater_by a b (nat_lt b a) (b == a) refl
 
--- ---- what is told of names below others
+-- ---- what is known of names below others
 
 -- with one thing more that holds all hold
 pub one_more_alike : (config : Config) (rewrites states : ℕ) (rows : List AlikeBelow) (row : AlikeBelow) → AreAlikeBelow config rewrites states rows

@@ -1,5 +1,5 @@
--- What is told of the names below a name, as far as no origin of a zone stands between or with each unnamed tail, is told
--- of the class below it and of the names at or below its children.
+-- What holds of the names below a name, as far as no origin of a zone stands between or with each unnamed tail, holds of
+-- the class below it and of the names at or below its children.
 use Rattle.std.proofs.Common.{◌≡◌, ◌<◌, ◌⊎◌, Bool, true, false, cond, [], ◌∷◌, ◌++◌, length, Option, Some, None, is_some, refl, sym, ap, ◌∙◌, subst, inl, inr, arith, length-append}
 use Rattle.dns_data.specs.Name.{Labels, is_prefix}
 use Rattle.dns_data.proofs.NameFronts.{Begins, begins_itself, is_prefix_tells, is_prefix_told, two_fronts}
@@ -10,7 +10,7 @@ use Rattle.net_model.specs.Reading.{Covers, Ground}
 use Rattle.net_model.specs.Tails.{IsUnnamedTail}
 use Rattle.walk_laws.proofs.WalksAlike.ClassTails.{named_everywhere, tail_of}
 use Rattle.query_classes.specs.Children.{HasBelow, IsInTree}
-use Rattle.query_classes.specs.TreeNames.{AreBaseNamesOf, IsToldBelow}
+use Rattle.query_classes.specs.TreeNames.{AreBaseNamesOf, HoldsBelow}
 use Rattle.straight_walks.specs.Straight.{NoOriginBelow, NoOriginBetween}
 use Rattle.query_verdicts.specs.Subjects.{RepresentsBelow}
 use Rattle.query_verdicts.specs.TreeVerdicts.{IsVerdictBelow}
@@ -29,40 +29,40 @@ module _ (ground : Ground) (config : Config) (covers : Covers ground config) whe
     stands.extends,
   )
 
-  -- where it is told of the name with each unnamed tail, it is told of the class below, if that has a representative
-  module _ {C : Type 0} (IsTold : Labels → C → Type 0) (told : C) (above : Labels) (in_tree : IsInTree ground above)
-      (below : (tail : Labels) → IsUnnamedTail config above tail → IsTold (above ++ tail) told) where
+  -- the verdict of the name with each unnamed tail is that of the class below, if that has a representative
+  module _ {C : Type 0} (IsVerdictOf : Labels → C → Type 0) (verdict : C) (above : Labels) (in_tree : IsInTree ground above)
+      (below : (tail : Labels) → IsUnnamedTail config above tail → IsVerdictOf (above ++ tail) verdict) where
     by_representative : (found : Option Labels) → RepresentsBelow ground above found → (some : Bool) → is_some found ≡ some
-        → IsVerdictBelow ground IsTold above (cond some (Some told) None)
+        → IsVerdictBelow ground IsVerdictOf above (cond some (Some verdict) None)
     by_representative None empty true e = cc
     by_representative None empty false e = empty
     by_representative (Some query) stands true e =
         let (tail, is, whole) = unnamed_tail above query stands.represents in
-        (query, stands.represents, subst (λ (name : Labels). IsTold name told) (sym whole) (below tail is))
+        (query, stands.represents, subst (λ (name : Labels). IsVerdictOf name verdict) (sym whole) (below tail is))
     by_representative (Some query) stands false e = cc
 
-    -- if one thing is told of the name with each unnamed tail, it is the verdict of the class below the name, if that class
-    -- has a representative
-    pub told_below : (names : Ground) → AreBaseNamesOf ground names → (some : Bool) → HasBelow names above some
-        → IsVerdictBelow ground IsTold above (cond some (Some told) None)
-    told_below names are some has =
+    -- if the name has one verdict with each unnamed tail, it is that of the class below the name, if that class has a
+    -- representative
+    pub verdict_below : (names : Ground) → AreBaseNamesOf ground names → (some : Bool) → HasBelow names above some
+        → IsVerdictBelow ground IsVerdictOf above (cond some (Some verdict) None)
+    verdict_below names are some has =
         by_representative has.0 (represents_below ground names are (is_closed config ground covers) above in_tree has.0 has.1) some has.2
 
 -- ---- all names at or below a name
 
-module _ (IsTold : Labels → Type 0) (above : Labels) (all : IsToldBelow IsTold above) where
-  -- what is told of all names at or below a name is told of the name itself
-  pub told_itself : IsTold above
-  told_itself = all above (begins_itself above)
+module _ (Holds : Labels → Type 0) (above : Labels) (all : HoldsBelow Holds above) where
+  -- what holds of all names at or below a name holds of the name itself
+  pub holds_itself : Holds above
+  holds_itself = all above (begins_itself above)
 
-  -- what is told of all names at or below a name is told of it with each tail
-  pub told_with_tail : (tail : Labels) → IsTold (above ++ tail)
-  told_with_tail tail = all (above ++ tail) (is_prefix_told above (above ++ tail) (tail, refl))
+  -- what holds of all names at or below a name holds of it with each tail
+  pub holds_with_tail : (tail : Labels) → Holds (above ++ tail)
+  holds_with_tail tail = all (above ++ tail) (is_prefix_told above (above ++ tail) (tail, refl))
 
--- where no origin stands below the name, it is told of each where it is told of each with none between
-pub told_of_all : (config : Config) (IsTold : Labels → Type 0) (above : Labels) → NoOriginBelow config above
-    → ((name : Labels) → NoOriginBetween config above name → IsTold name) → IsToldBelow IsTold above
-told_of_all config IsTold above none_below between name inside =
+-- where no origin stands below the name, it holds of each if it holds of each with none between
+pub holds_of_all : (config : Config) (Holds : Labels → Type 0) (above : Labels) → NoOriginBelow config above
+    → ((name : Labels) → NoOriginBetween config above name → Holds name) → HoldsBelow Holds above
+holds_of_all config Holds above none_below between name inside =
     between name (record { above = inside; none_longer = λ server longer begins more. none_below server longer (further longer begins more) more })
   where
     further : (longer : Labels) → is_prefix longer name ≡ true → length above < length longer → is_prefix above longer ≡ true

@@ -55,7 +55,7 @@ module _ {W C : Type 0} (P : Labels → Type 0) (rows : List (TreeRow W C)) (i :
       ]
 
 -- the classes of a kind, of which each is of the tree
-module _ {W C X : Type 0} {ground : Ground} {above : Labels} {IsTold : Labels → C → Type 0} (rows : List (TreeRow W C)) (are : AreTreeRows ground above IsTold rows)
+module _ {W C X : Type 0} {ground : Ground} {above : Labels} {IsVerdictOf : Labels → C → Type 0} (rows : List (TreeRow W C)) (are : AreTreeRows ground above IsVerdictOf rows)
     (IsKind : Class → X → Type 0) (in_part : (class : Class) (x : X) → IsKind class x → IsInPart ground above (class_name class)) where
   row_at : (class : Class) (x : X) → IsKind class x
       → (row : TreeRow W C) × (k : ℕ) × (k < length rows) × ((d : TreeRow W C) → (get_or rows k d).item ≡ class_name class)

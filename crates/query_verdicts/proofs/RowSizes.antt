@@ -13,24 +13,24 @@ use Rattle.net_model.specs.Reading.{Ground}
 use Rattle.net_model.specs.Tree.{AreBelowClasses}
 use Rattle.query_verdicts.specs.TreeVerdicts.{AreTreeRows, IsVerdictAt, IsVerdictBelow, TreeRow, below_count, has_below, row_names}
 
-module _ {W C : Type 0} {ground : Ground} {above : Labels} {IsTold : Labels → C → Type 0} (rows : List (TreeRow W C)) (are : AreTreeRows ground above IsTold rows) where
+module _ {W C : Type 0} {ground : Ground} {above : Labels} {IsVerdictOf : Labels → C → Type 0} (rows : List (TreeRow W C)) (are : AreTreeRows ground above IsVerdictOf rows) where
   -- the rows with a class below
   abbrev with_below : List (TreeRow W C)
   with_below = filter has_below rows
 
-  right : (row : TreeRow W C) → Contains rows row → IsVerdictAt ground IsTold row.item row.verdict
-  right row has = All-contains (λ (r : TreeRow W C). IsVerdictAt ground IsTold r.item r.verdict) rows row are.verdicts has
+  right : (row : TreeRow W C) → Contains rows row → IsVerdictAt ground IsVerdictOf row.item row.verdict
+  right row has = All-contains (λ (r : TreeRow W C). IsVerdictAt ground IsVerdictOf r.item r.verdict) rows row are.verdicts has
 
-  -- the class below a name has a representative exactly where something is told of it
-  represented : (name : Labels) (below : Option C) → IsVerdictBelow ground IsTold name below → is_some below ≡ true
+  -- the class below a name has a representative exactly where it has a verdict
+  represented : (name : Labels) (below : Option C) → IsVerdictBelow ground IsVerdictOf name below → is_some below ≡ true
       → (query : Labels) × IsRepresentative ground (Below name) query
   represented name None none some = absurd (true≢false (sym some))
-  represented name (Some told) (query, represents, is) some = (query, represents)
+  represented name (Some verdict) (query, represents, is) some = (query, represents)
 
-  told_below : (name : Labels) (below : Option C) → IsVerdictBelow ground IsTold name below
+  some_below : (name : Labels) (below : Option C) → IsVerdictBelow ground IsVerdictOf name below
       → (query : Labels) → IsRepresentative ground (Below name) query → is_some below ≡ true
-  told_below name None none query represents = absurd (none query represents)
-  told_below name (Some told) is query represents = refl
+  some_below name None none query represents = absurd (none query represents)
+  some_below name (Some verdict) is query represents = refl
 
   there : (name : Labels) → Contains (row_names with_below) name
       → Contains (row_names rows) name × ((query : Labels) × IsRepresentative ground (Below name) query)
@@ -45,7 +45,7 @@ module _ {W C : Type 0} {ground : Ground} {above : Labels} {IsTold : Labels → 
   back name (has, (query, represents)) =
       let (row, among, is) = from_map (λ (r : TreeRow W C). r.item) rows name has in
       let some : has_below row ≡ true =
-      told_below row.item row.verdict.below (right row among).below query (subst (λ (n : Labels). IsRepresentative ground (Below n) query) (sym is) represents) in
+      some_below row.item row.verdict.below (right row among).below query (subst (λ (n : Labels). IsRepresentative ground (Below n) query) (sym is) represents) in
       subst (Contains (row_names with_below)) is (map_has (λ (r : TreeRow W C). r.item) with_below row (filter_has has_below rows row among some))
 
   below_classes : AreBelowClasses ground (row_names rows) (row_names with_below)

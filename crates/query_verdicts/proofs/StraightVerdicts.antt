@@ -16,18 +16,18 @@ use Rattle.net_model.specs.Walk.{IsBoundedWith}
 use Rattle.net_model.specs.declared.walk.Leaf.{Leaf}
 use Rattle.straight_walks.specs.Ends.{IsOutcomeOf}
 use Rattle.straight_walks.specs.Faulty.{ShowsThese, faults_at}
-use Rattle.straight_walks.specs.Straight.{NoOriginBetween, told_of}
+use Rattle.straight_walks.specs.Straight.{NoOriginBetween, faults_by_ends}
 use Rattle.straight_walks.specs.declared.ends.StraightEnds.{StraightEnds}
 use Rattle.straight_walks.specs.declared.faulty.Faulty.{Faulty}
 use Rattle.straight_walks.proofs.ShowsThese.{first_shown}
 use Rattle.walk_laws.specs.Outcome.{HasOutcome}
 use Rattle.walk_laws.proofs.GivenSets.{lists_show}
-use Rattle.query_verdicts.specs.Queries.{AreSets, AreStraightEnds, IsToldFor}
+use Rattle.query_verdicts.specs.Queries.{AreSets, AreStraightEnds, IsJudgedBy}
 use Rattle.query_verdicts.specs.Verdict.{IsClassVerdict}
 use Rattle.query_verdicts.specs.declared.verdict.ClassVerdict.TheVariants.{Faults}
 use Rattle.query_verdicts.proofs.ClassesJudged.{all_sought}
 
--- ---- where no fault is told
+-- ---- where there is no fault
 
 -- no fault is the first of none
 none_first : AreFirstTypes [] []
@@ -43,10 +43,10 @@ none_there [] e = refl
 none_there (one ∷ rest) e = let no = eqb-true (length (one ∷ rest)) 0 e in absurd (omega (arith, no))
 
 -- a query whose ends tell of no referral that shows a fault shows none
-pub told_nothing : (config : Config) (rewrites states : ℕ) (query name : Labels) (ends : StraightEnds) → (length ends.faulty.items == 0) ≡ true
-    → IsToldFor config rewrites states (told_of query ends) name → IsClassVerdict config rewrites states name (Faults [])
-told_nothing config rewrites states query name ends none told =
-    subst (λ (all : List Fault). IsToldFor config rewrites states all name) (ap (faults_at query) (none_there ends.faulty.items none)) told [] none_first
+pub judged_quiet : (config : Config) (rewrites states : ℕ) (query name : Labels) (ends : StraightEnds) → (length ends.faulty.items == 0) ≡ true
+    → IsJudgedBy config rewrites states (faults_by_ends query ends) name → IsClassVerdict config rewrites states name (Faults [])
+judged_quiet config rewrites states query name ends none told =
+    subst (λ (all : List Fault). IsJudgedBy config rewrites states all name) (ap (faults_at query) (none_there ends.faulty.items none)) told [] none_first
 
 -- ---- the verdict of a query with straight ends
 
@@ -55,13 +55,13 @@ abbrev pub IsFew : Config → ℕ → ℕ → Labels → Type 0
 IsFew config rewrites states query = HasMoreThan (IsReached config rewrites query) states → ⊥
 
 -- the query shows these faults with the two sets of learnt addresses
-abbrev pub ShowsTold : Config → ℕ → Deps → List Fault → Labels → Type 0
-ShowsTold config rewrites deps told query = ShowsThese (with_lists (following config rewrites deps.least) deps.least deps.greatest) query told
+abbrev pub ShowsFaults : Config → ℕ → Deps → List Fault → Labels → Type 0
+ShowsFaults config rewrites deps told query = ShowsThese (with_lists (following config rewrites deps.least) deps.least deps.greatest) query told
 
 module _ (config : Config) (rewrites states : ℕ) (query : Labels) (deps : Deps) (sets : AreSets config rewrites states deps) where
   -- so the verdict of such a query has the first of each
-  told_for : (told : List Fault) (name : Labels) → IsFew config rewrites states name → ShowsTold config rewrites deps told name → IsToldFor config rewrites states told name
-  told_for told name few these shown firsts = (
+  judged_for : (told : List Fault) (name : Labels) → IsFew config rewrites states name → ShowsFaults config rewrites deps told name → IsJudgedBy config rewrites states told name
+  judged_for told name few these shown firsts = (
     few,
     all_sought config rewrites states deps sets name shown (first_shown (with_sets (following config rewrites deps.least)) name told shown with_both firsts),
   )
@@ -73,17 +73,17 @@ module _ (config : Config) (rewrites states : ℕ) (query : Labels) (deps : Deps
             only = λ rtype fault shows. these.only rtype fault ((lists_show config rewrites deps.least deps.least deps.greatest sets.least sets.greatest name rtype fault).1 shows);
           }
 
-  -- what is told of the ends that a call gives holds of the query, and of the names of which they tell the ends too
+  -- what holds of the ends that a call gives holds of the query, and of the names of which they tell the ends too
   pub straight_ends : {E : Type 0} (given : Result (Option StraightEnds) E) → IfOk given (λ found. IfSome found (λ ends. IsFew config rewrites states query))
-      → IfOk given (λ found. IfSome found (λ ends. ShowsTold config rewrites deps (told_of query ends) query))
+      → IfOk given (λ found. IfSome found (λ ends. ShowsFaults config rewrites deps (faults_by_ends query ends) query))
       → IfOk given (λ found. IfSome found (λ ends. (rtype : RrType) → IsBoundedWith (following config rewrites deps.least) query rtype))
       → IfOk given (λ found. IfSome found (λ ends. (rtype : RrType) (outcome : Option Leaf)
       → HasOutcome (following config rewrites deps.least) query rtype outcome ↔ IsOutcomeOf ends rtype outcome))
       → IfOk given (λ found. IfSome found (λ ends. ends.below ≡ true → (name : Labels) → NoOriginBetween config query name → IsFew config rewrites states name))
-      → IfOk given (λ found. IfSome found (λ ends. ends.below ≡ true → (name : Labels) → NoOriginBetween config query name → ShowsTold config rewrites deps (told_of query ends) name))
+      → IfOk given (λ found. IfSome found (λ ends. ends.below ≡ true → (name : Labels) → NoOriginBetween config query name → ShowsFaults config rewrites deps (faults_by_ends query ends) name))
       → IfOk given (λ found. IfSome found (λ ends. ends.unnamed_below ≡ true → (tail : Labels) → IsUnnamedTail config query tail → IsFew config rewrites states (query ++ tail)))
       → IfOk given (λ found. IfSome found (λ ends. ends.unnamed_below ≡ true → (tail : Labels) → IsUnnamedTail config query tail
-      → ShowsTold config rewrites deps (told_of query ends) (query ++ tail)))
+      → ShowsFaults config rewrites deps (faults_by_ends query ends) (query ++ tail)))
       → IfOk given (λ found. IfSome found (AreStraightEnds config rewrites states query))
   straight_ends (Ok None) few shown bounded outcomes few_below shown_below few_unnamed shown_unnamed = tt
   straight_ends (Ok (Some ends)) few shown bounded outcomes few_below shown_below few_unnamed shown_unnamed =
@@ -94,8 +94,8 @@ module _ (config : Config) (rewrites states : ℕ) (query : Labels) (deps : Deps
         in_force = sets.least;
         bounded = bounded;
         outcomes = outcomes;
-        told = told_for (told_of query ends) query few shown;
-        told_below = λ below name between. told_for (told_of query ends) name (few_below below name between) (shown_below below name between);
-        told_unnamed = λ below tail is. told_for (told_of query ends) (query ++ tail) (few_unnamed below tail is) (shown_unnamed below tail is);
+        verdict = judged_for (faults_by_ends query ends) query few shown;
+        verdict_below = λ below name between. judged_for (faults_by_ends query ends) name (few_below below name between) (shown_below below name between);
+        verdict_unnamed = λ below tail is. judged_for (faults_by_ends query ends) (query ++ tail) (few_unnamed below tail is) (shown_unnamed below tail is);
       }
   straight_ends (Err fault) few shown bounded outcomes few_below shown_below few_unnamed shown_unnamed = tt

@@ -24,18 +24,18 @@ module _ (subject : Subject) (covers : Covers subject.ground subject.config) whe
   decided =
       let closed = is_closed subject.config subject.ground covers in below_decided subject.ground closed (live_set_of subject.ground closed)
 
-  told_exists : (states : ℕ) (query : Labels) → IsName query → (verdict : ClassVerdict) × IsClassVerdict subject.config subject.rewrites states query verdict
-  told_exists states query is = class_verdict_exists subject.config subject.rewrites states query (in_own_class subject.config query is)
+  verdict_exists : (states : ℕ) (query : Labels) → IsName query → (verdict : ClassVerdict) × IsClassVerdict subject.config subject.rewrites states query verdict
+  verdict_exists states query is = class_verdict_exists subject.config subject.rewrites states query (in_own_class subject.config query is)
 
   -- the verdict of a name; what isn't a name shows nothing
   pub verdict_of : ℕ → Labels → NameVerdict ClassVerdict
   verdict_of states =
-      verdicts.verdict_of subject.ground (IsClassVerdict subject.config subject.rewrites states) (Faults []) (told_exists states) decided
+      verdicts.verdict_of subject.ground (IsClassVerdict subject.config subject.rewrites states) (Faults []) (verdict_exists states) decided
 
   verdict_is : (states : ℕ) (name : Labels) → IsName name → IsNameVerdict subject states name (verdict_of states name)
   unfolding verdict_of
   verdict_is states =
-      verdicts.verdict_is subject.ground (IsClassVerdict subject.config subject.rewrites states) (Faults []) (told_exists states) decided
+      verdicts.verdict_is subject.ground (IsClassVerdict subject.config subject.rewrites states) (Faults []) (verdict_exists states) decided
 
   -- the names of the class tree one label below a name
   abbrev pub names_below : Labels → List Labels

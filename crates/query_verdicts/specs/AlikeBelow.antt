@@ -23,7 +23,7 @@ pub record IsFitBelow (one : AlikeBelow) (query : Labels) : Type 0 where
   pub is : query ≡ one.above ++ first ∷ rest
   pub fits : wire_octets query ≤ one.octets
 
--- each query of which this is told shows these faults and no others, and walks as the one name does
+-- each query of these names shows these faults and no others, and walks as the one name does
 abbrev pub IsAlikeBelow : Config → ℕ → ℕ → AlikeBelow → Type 0
 IsAlikeBelow config rewrites states one =
     (query : Labels) → IsFitBelow one query

@@ -13,17 +13,17 @@ use Rattle.query_verdicts.specs.declared.first_classes.ClassFault.{ClassFault}
 use Rattle.query_verdicts.specs.declared.kept.KeptReport.{KeptReport}
 
 -- these are the three numbers of the report, and this is kept of its entries, in order
-pub record KeepsReport {K : Type 0} (kept_of : ReportEntry → K) (told : KeptReport K) (report : Report) : Type 0 where
-  pub classes : told.classes ≡ report.classes
-  pub names : told.names ≡ report.names
-  pub rewrites : told.rewrites ≡ report.rewrites
-  pub entries : told.kept ≡ map kept_of report.entries
+pub record KeepsReport {K : Type 0} (kept_of : ReportEntry → K) (made : KeptReport K) (report : Report) : Type 0 where
+  pub classes : made.classes ≡ report.classes
+  pub names : made.names ≡ report.names
+  pub rewrites : made.rewrites ≡ report.rewrites
+  pub entries : made.kept ≡ map kept_of report.entries
 
 -- there is a report of the subject of which this is kept
-pub record IsKeptReport {K : Type 0} (subject : Subject) (kept_of : ReportEntry → K) (told : KeptReport K) : Type 0 where
+pub record IsKeptReport {K : Type 0} (subject : Subject) (kept_of : ReportEntry → K) (made : KeptReport K) : Type 0 where
   pub report : Report
   pub is_report : IsReport subject report
-  pub keeps : KeepsReport kept_of told report
+  pub keeps : KeepsReport kept_of made report
 
 -- ---- for the contracts of inner calls alone
 

@@ -1,9 +1,9 @@
 -- What is learnt of a configuration before its queries are judged: for the contracts of inner calls alone.
 use Rattle.std.specs.Prelude.{◌≡◌, ◌++◌, ℕ, Bool, true, Contains, IfSome, List, Result, Ok, Err}
 use Rattle.dns_data.specs.Name.{Labels, wire_octets}
-use Rattle.address_deps.specs.Told.{AreTold, IsToldOf}
-use Rattle.address_deps.specs.declared.told.AddressTold.{AddressTold}
-use Rattle.address_deps.specs.declared.told.AddressTold.TheVariants.{Known}
+use Rattle.address_deps.specs.Addresses.{AreAddresses, IsAddressOf}
+use Rattle.address_deps.specs.declared.addresses.AddressLearnt.{AddressLearnt}
+use Rattle.address_deps.specs.declared.addresses.AddressLearnt.TheVariants.{Known}
 use Rattle.label_graph.specs.Pairs.{AreSame}
 use Rattle.net_model.specs.declared.config.Config.{Config}
 use Rattle.net_model.specs.declared.place.Cut.{Cut}
@@ -30,8 +30,8 @@ limited queries = limited_to queries.trees queries.rewrites queries.states
 abbrev pub FollowsAll : Config → List Labels → Type 0
 FollowsAll config followed = (cut : Cut) → is_configured config cut.ns ≡ true → may_follow config cut followed ≡ true
 
--- the sets are those of the configuration, and the table and the regions are of both; where it is told that all servers are
--- followed, the least set follows them; and what is told of all names below one holds
+-- the sets are those of the configuration, and the table and the regions are of both; if it says that all servers are
+-- followed, the least set follows them; and what is seen of all names below one holds
 pub record IsRightLearnt (config : Config) (rewrites states : ℕ) (learnt : Learnt) : Type 0 where
   pub sets : AreSets config rewrites states learnt.sets
   pub table : IsTableOf config learnt.sets learnt.table
@@ -39,11 +39,11 @@ pub record IsRightLearnt (config : Config) (rewrites states : ℕ) (learnt : Lea
   pub all_followed : learnt.all_followed ≡ true → FollowsAll config learnt.sets.least
   pub alike : AreAlikeBelow config rewrites states learnt.alike
 
--- whichever configured servers are followed, an address of the name can be learnt or can't, as is told; and the name
--- reaches no more pairs than it may
+-- an address of the name can or can't be learnt, whichever configured servers are followed; and the name reaches no more
+-- pairs than it may
 abbrev pub IsKnownOf : Config → ℕ → ℕ → Labels → Bool → Type 0
 IsKnownOf config rewrites states name learnt =
-    IsToldOf config rewrites name (Known learnt) × (PassesStates config rewrites states name → ⊥)
+    IsAddressOf config rewrites name (Known learnt) × (PassesStates config rewrites states name → ⊥)
 
 -- it is so of each name with as many octets that is the other one with an unnamed tail
 abbrev pub IsKnownBelow : Config → ℕ → ℕ → KnownBelow → Type 0
@@ -56,11 +56,11 @@ pub record AreKnown (config : Config) (rewrites states : ℕ) (classes : KnownCl
   pub names : IfSome classes.names (λ names. AreSame names (ground_of config))
   pub each : (one : KnownBelow) → Contains classes.known one → IsKnownBelow config rewrites states one
 
--- what is told of the servers' names, none of which reaches too many pairs, or else the first that does
-abbrev pub AreToldOrPassed : Config → ℕ → ℕ → Result (List AddressTold) Labels → Type 0
-AreToldOrPassed config rewrites states (Ok told) =
-    AreTold config rewrites told × (SomeServerPasses config rewrites states → ⊥)
-AreToldOrPassed config rewrites states (Err server) = IsFirstServerPassed config rewrites states server
+-- the addresses are those of the servers' names, none of which reaches too many pairs; or else the first that does
+abbrev pub AreAddressesOrPassed : Config → ℕ → ℕ → Result (List AddressLearnt) Labels → Type 0
+AreAddressesOrPassed config rewrites states (Ok addresses) =
+    AreAddresses config rewrites addresses × (SomeServerPasses config rewrites states → ⊥)
+AreAddressesOrPassed config rewrites states (Err server) = IsFirstServerPassed config rewrites states server
 
 -- what is learnt, or else the first server whose name reaches too many pairs
 abbrev pub IsLearntOf : Config → ℕ → ℕ → Result Learnt Labels → Type 0

@@ -25,7 +25,7 @@ use Rattle.net_model.specs.declared.walk.Leaf.{Leaf}
 use Rattle.net_model.specs.declared.walk.Walk.{Walk}
 use Rattle.query_classes.specs.TreeNames.{AreBaseNamesOf}
 use Rattle.straight_walks.specs.Ends.{IsOutcomeOf}
-use Rattle.straight_walks.specs.Straight.{NoOriginBetween, told_of}
+use Rattle.straight_walks.specs.Straight.{NoOriginBetween, faults_by_ends}
 use Rattle.straight_walks.specs.declared.ends.StraightEnds.{StraightEnds}
 use Rattle.walk_laws.specs.Outcome.{HasOutcome}
 use Rattle.query_verdicts.specs.Verdict.{IsClassVerdict, PassesStates, SomeServerPasses}
@@ -83,9 +83,9 @@ pub record IsLeastGraph (config : Config) (rewrites : ℕ) (query : Labels) (gra
   pub exact : IsExactIn (following config rewrites followed) query graph
 
 -- the verdict of a query that shows these faults, with all types alike: each once, with the first type
-abbrev pub IsToldFor : Config → ℕ → ℕ → List Fault → Labels → Type 0
-IsToldFor config rewrites states told query =
-    (shown : List Seen) → AreFirstTypes (with_type types.A told) shown → IsClassVerdict config rewrites states query (Faults shown)
+abbrev pub IsJudgedBy : Config → ℕ → ℕ → List Fault → Labels → Type 0
+IsJudgedBy config rewrites states faults query =
+    (shown : List Seen) → AreFirstTypes (with_type types.A faults) shown → IsClassVerdict config rewrites states query (Faults shown)
 
 -- The walks of the query end so while the servers of the set in force are followed: it has these outcomes and no
 -- others, and no walk of it ends in a name of more than 255 octets (RFC 6672 section 2.2). Neither it nor the name of
@@ -99,10 +99,10 @@ pub record AreStraightEnds (config : Config) (rewrites states : ℕ) (query : La
   pub in_force : IsInForce config rewrites followed
   pub bounded : (rtype : RrType) → IsBoundedWith (following config rewrites followed) query rtype
   pub outcomes : (rtype : RrType) (outcome : Option Leaf) → HasOutcome (following config rewrites followed) query rtype outcome ↔ IsOutcomeOf ends rtype outcome
-  pub told : IsToldFor config rewrites states (told_of query ends) query
-  pub told_below : ends.below ≡ true → (name : Labels) → NoOriginBetween config query name → IsToldFor config rewrites states (told_of query ends) name
-  pub told_unnamed : ends.unnamed_below ≡ true → (tail : Labels) → IsUnnamedTail config query tail
-      → IsToldFor config rewrites states (told_of query ends) (query ++ tail)
+  pub verdict : IsJudgedBy config rewrites states (faults_by_ends query ends) query
+  pub verdict_below : ends.below ≡ true → (name : Labels) → NoOriginBetween config query name → IsJudgedBy config rewrites states (faults_by_ends query ends) name
+  pub verdict_unnamed : ends.unnamed_below ≡ true → (tail : Labels) → IsUnnamedTail config query tail
+      → IsJudgedBy config rewrites states (faults_by_ends query ends) (query ++ tail)
 
 -- the query is of the class under the ground, and its representative
 pub record StandsFor (ground : Ground) (class : Class) (query : Labels) : Type 0 where

@@ -22,8 +22,8 @@ pub(crate) struct AlikeBelow {
 }
 
 impl AlikeBelow {
-    /// Whether it is told of the query: it stands below the name, and has at most so many octets.
-    fn is_told_of(&self, query: &Name) -> bool
+    /// Whether the query is one of them: it stands below the name, and has at most so many octets.
+    fn has(&self, query: &Name) -> bool
         ensures { result ≡ true → IsFitBelow self.now query.now }
     {
         if query.octets() > self.octets {
@@ -36,8 +36,8 @@ impl AlikeBelow {
     }
 }
 
-/// The verdict of a query of which one of these tells, or `None` where none does.
-pub(crate) fn told_alike(
+/// The verdict of a query that is one of these names, or `None` where it isn't.
+pub(crate) fn verdict_alike(
     alloc: Global,
     alike: &[AlikeBelow],
     query: &Name,
@@ -45,7 +45,7 @@ pub(crate) fn told_alike(
     ensures { IfOk result (λ found. IfSome found (λ verdict. (config : Config) (rewrites states : ℕ) → AreAlikeBelow config rewrites states alike.now
         → IsClassVerdict config rewrites states query.now verdict)) }
 {
-    match one_told_of(alike, query) {
+    match one_with(alike, query) {
         Some(one) => {
             let shown = shown_copy(alloc, one.shown.items())?;
             Ok(Some(ClassVerdict::Faults(shown)))
@@ -54,28 +54,24 @@ pub(crate) fn told_alike(
     }
 }
 
-/// The name as which a query walks of which one of these tells, or `None` where none does.
+/// The name as which a query walks that is one of these names, or `None` where it isn't.
 pub(crate) fn like_of<'a>(alike: &'a [AlikeBelow], query: &Name) -> Option<&'a Name>
     ensures { IfSome result (λ like. (config : Config) (rewrites states : ℕ) → AreAlikeBelow config rewrites states alike.now
         → WalksLike (limited_to config rewrites states) like.now query.now) }
 {
-    let one = one_told_of(alike, query)?;
+    let one = one_with(alike, query)?;
     Some(&one.like)
 }
 
-/// The one of these that is told of the query, where they stand in the order of their names and none below another's name.
+/// The one of these among whose names the query is, where they stand in the order of their names and none below another's.
 /// No meaning rests on their order.
-fn one_told_of<'a>(alike: &'a [AlikeBelow], query: &Name) -> Option<&'a AlikeBelow>
+fn one_with<'a>(alike: &'a [AlikeBelow], query: &Name) -> Option<&'a AlikeBelow>
     ensures one { IfSome result (λ one. Contains alike.now one.now) }
     ensures fits { IfSome result (λ one. IsFitBelow one.now query.now) }
 {
     let front = alike.get(..place_of(alike, query))?;
     let one = front.last()?;
-    if one.is_told_of(query) {
-        Some(one)
-    } else {
-        None
-    }
+    if one.has(query) { Some(one) } else { None }
 }
 
 /// How many of these, in the order of their names, stand before the query.

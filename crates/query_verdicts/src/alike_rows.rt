@@ -143,7 +143,7 @@ fn row_of<'h, 'a>(
     }))
 }
 
-/// Whether none of the faults is told of a class or of its representative alone.
+/// Whether none of the faults is a class's or its representative's alone.
 fn are_of_walks(shown: &[Seen]) -> bool
     ensures { result ≡ list_all (λ seen. is_of_walks seen.fault) shown.now }
 {

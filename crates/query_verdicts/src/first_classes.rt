@@ -68,8 +68,8 @@ fn put_name(
 ) -> Result<(), NoMemory>
     ensures { OnOk result (KeepsFirsts (found.old ++ found_at name verdict) found.new) }
 {
-    match verdict.told() {
-        Some(told) => put_classes(alloc, name, told, found),
+    match verdict.whole() {
+        Some(whole) => put_classes(alloc, name, whole, found),
         None => Ok(()),
     }
 }
@@ -78,14 +78,14 @@ fn put_name(
 fn put_classes(
     alloc: Global,
     name: Name,
-    told: &NameVerdict<ClassVerdict>,
+    verdict: &NameVerdict<ClassVerdict>,
     found: &mut FirstClasses,
 ) -> Result<(), NoMemory>
-    ensures { OnOk result (KeepsFirsts (found.old ++ found_at name told.now) found.new) }
+    ensures { OnOk result (KeepsFirsts (found.old ++ found_at name verdict.now) found.new) }
 {
     let class = Class::Exact(name.copy(alloc)?);
-    found.put_class(alloc, &class, &told.exact)?;
-    match &told.below {
+    found.put_class(alloc, &class, &verdict.exact)?;
+    match &verdict.below {
         Some(verdict) => found.put_class(alloc, &Class::Below(name), verdict),
         None => Ok(()),
     }

@@ -143,9 +143,9 @@ impl<'a> QueryGraphs<'a> {
         }
     }
 
-    /// The verdict of a query, by a graph of its walks or by what is told of all names below one: the faults that it shows,
-    /// or that it reaches more pairs of state and type than are looked at. Where the name of some server does, no fault is
-    /// looked for.
+    /// The verdict of a query, by a graph of its walks or by what is known of all names below one: the faults that it
+    /// shows, or that it reaches more pairs of state and type than are looked at. Where the name of some server does, no
+    /// fault is looked for.
     pub fn verdict(&self, own: &OwnClass<'_>, query: &Name) -> Result<ClassVerdict, NoMemory>
         requires { IsOwnClass self.now.config own.now query.now }
         ensures { IfOk result (IsClassVerdict self.now.config self.now.rewrites self.now.states query.now) }

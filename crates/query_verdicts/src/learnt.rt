@@ -3,7 +3,7 @@
 ghost use Rattle.std.specs.Prelude.{◌≡◌, ◌||◌, true, IfOk};
 ghost use Rattle.std.specs.BTreeSet as tree;
 ghost use Rattle.std.specs.List.{list_all};
-ghost use Rattle.address_deps.specs.Told.{AreTold};
+ghost use Rattle.address_deps.specs.Addresses.{AreAddresses};
 ghost use Rattle.query_verdicts.specs.Learnt.{FollowsAll, IsLearntOf, IsRightLearnt};
 ghost use Rattle.query_verdicts.specs.Queries.{AreSets};
 ghost use Rattle.query_verdicts.specs.Verdict.{SomeServerPasses};
@@ -12,8 +12,8 @@ ghost use Rattle.dns_data.specs.Name.{name_cmp, is_among};
 use crate::alike::AlikeBelow;
 use crate::alike_rows::alike_rows;
 use crate::queries::Queries;
-use crate::servers::servers_told;
-use address_deps::{AddressTold, dependencies_among};
+use crate::servers::addresses_of_servers;
+use address_deps::{AddressLearnt, dependencies_among};
 use dns_data::{List, Name, NoMemory};
 use net_model::{Config, Server};
 use std::alloc::Global;
@@ -37,9 +37,9 @@ pub(crate) struct Learnt<'a> {
 pub(crate) fn learnt_of<'a>(queries: &Queries<'a>) -> Result<Result<Learnt<'a>, Name>, NoMemory>
     ensures { IfOk result (IsLearntOf queries.now.trees queries.now.rewrites queries.now.states) }
 {
-    match servers_told(queries)? {
-        Ok(told) => {
-            let learnt = learnt_from(queries, told.items())?;
+    match addresses_of_servers(queries)? {
+        Ok(addresses) => {
+            let learnt = learnt_from(queries, addresses.items())?;
             let learnt = with_alike(queries, learnt)?;
             Ok(Ok(learnt))
         }
@@ -57,13 +57,16 @@ fn with_alike<'a>(queries: &Queries<'a>, mut learnt: Learnt<'a>) -> Result<Learn
     Ok(learnt)
 }
 
-/// What is learnt from what is told of the servers' names, before names below one are looked at.
-fn learnt_from<'a>(queries: &Queries<'a>, told: &[AddressTold<'_>]) -> Result<Learnt<'a>, NoMemory>
-    requires told { AreTold queries.now.trees queries.now.rewrites told.now }
+/// What is learnt by the addresses of the servers' names, before names below one are looked at.
+fn learnt_from<'a>(
+    queries: &Queries<'a>,
+    addresses: &[AddressLearnt<'_>],
+) -> Result<Learnt<'a>, NoMemory>
+    requires addresses { AreAddresses queries.now.trees queries.now.rewrites addresses.now }
     requires few { SomeServerPasses queries.now.trees queries.now.rewrites queries.now.states → ⊥ }
     ensures { IfOk result (IsRightLearnt queries.now.trees queries.now.rewrites queries.now.states) }
 {
-    let sets = sets_from(queries, told)?;
+    let sets = sets_from(queries, addresses)?;
     let table = CutTable::build(queries.alloc, &queries.trees, &sets)?;
     let regions = Regions::build(queries.alloc, &queries.trees, &sets, &table)?;
     let all_followed = follows_all(queries.alloc, queries.trees.config(), &sets)?;
@@ -76,13 +79,13 @@ fn learnt_from<'a>(queries: &Queries<'a>, told: &[AddressTold<'_>]) -> Result<Le
     })
 }
 
-/// The two sets of learnt addresses, from what is told of the servers' names.
-fn sets_from(queries: &Queries<'_>, told: &[AddressTold<'_>]) -> Result<LearntSets, NoMemory>
-    requires told { AreTold queries.now.trees queries.now.rewrites told.now }
+/// The two sets of learnt addresses, by those of the servers' names.
+fn sets_from(queries: &Queries<'_>, addresses: &[AddressLearnt<'_>]) -> Result<LearntSets, NoMemory>
+    requires addresses { AreAddresses queries.now.trees queries.now.rewrites addresses.now }
     requires few { SomeServerPasses queries.now.trees queries.now.rewrites queries.now.states → ⊥ }
     ensures { IfOk result (AreSets queries.now.trees queries.now.rewrites queries.now.states) }
 {
-    let deps = dependencies_among(queries.alloc, &queries.trees, told)?;
+    let deps = dependencies_among(queries.alloc, &queries.trees, addresses)?;
     LearntSets::build(queries.alloc, deps)
 }
 

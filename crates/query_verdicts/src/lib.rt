@@ -9,7 +9,7 @@
 //! which queries are looked at.
 //!
 //! The way of a fault, from the graph of a query's walks to its entry, goes through five files: `verdicts` finds the faults
-//! in the graph, `verdict` has what is told of a class and of a name and how that is filed, `name_judge` judges the two
+//! in the graph, `verdict` has the verdicts of a class and of a name and how they are filed, `name_judge` judges the two
 //! classes of a name, `first_classes` keeps of each fault the first class that shows it, and `report` makes the entry.
 //!
 //! Costs: `prepare` makes the trees of all zones and, where it isn't seen at once that walks of a server's name end at

@@ -6,14 +6,14 @@ ghost use Rattle.net_model.specs.Tails.{IsUnnamedTail};
 ghost use Rattle.net_model.specs.declared.class.Class.TheVariants.{Below};
 ghost use Rattle.net_model.specs.Reading.{ground_of};
 ghost use Rattle.query_verdicts.specs.Passed.{IsFirstServerPassed};
-ghost use Rattle.query_verdicts.specs.Queries.{AreStraightEnds, IsLeastGraph, IsToldFor, StandsFor, queries_of};
+ghost use Rattle.query_verdicts.specs.Queries.{AreStraightEnds, IsLeastGraph, IsJudgedBy, StandsFor, queries_of};
 ghost use Rattle.query_verdicts.specs.Subjects.{AreOfSubject, IsCovering, RepresentsBelow};
 ghost use Rattle.query_verdicts.specs.Verdict.{IsBelowVerdict, IsClassVerdict, IsNameVerdict, IsQuiet, PassesStates, SomeServerPasses};
 ghost use Rattle.query_verdicts.specs.declared.verdict.ClassVerdict.TheVariants.{Faults};
-ghost use Rattle.straight_walks.specs.Straight.{told_of};
+ghost use Rattle.straight_walks.specs.Straight.{faults_by_ends};
 ghost use Rattle.query_classes.specs.Children.{AreChildren, IsInTree};
 ghost use Rattle.query_classes.specs.Members.{RepresentsClass};
-ghost use Rattle.query_classes.specs.TreeNames.{AreBaseNamesOf, IsLiveIn, IsToldBelow};
+ghost use Rattle.query_classes.specs.TreeNames.{AreBaseNamesOf, IsLiveIn, HoldsBelow};
 
 use crate::graphs::QueryGraphs;
 use crate::own_class::OwnClass;
@@ -112,7 +112,7 @@ impl<'a, S: OnSubject> NameJudge<'a, S> {
         ensures verdict { IfOk result (λ judged. IsNameVerdict S.subject S.states item.now judged.verdict) }
         ensures children { IfOk result (λ judged. AreChildren S.subject.ground item.now judged.children) }
     {
-        if item.is_told_below() {
+        if item.holds_below() {
             let verdict = self.quiet_name(item.live_name())?;
             self.with_children(item, verdict, true)
         } else {
@@ -157,7 +157,7 @@ impl<'a, S: OnSubject> NameJudge<'a, S> {
         all_quiet: bool,
     ) -> Result<Judged<TreeName<SubjectGround<S>>, FiledVerdict>, NoMemory>
         requires verdict { IsNameVerdict S.subject S.states item.now verdict }
-        requires quiet { all_quiet ≡ true → IsToldBelow (IsQuiet S.subject S.states) item.now }
+        requires quiet { all_quiet ≡ true → HoldsBelow (IsQuiet S.subject S.states) item.now }
         ensures verdict { IfOk result (λ judged. IsNameVerdict S.subject S.states item.now judged.verdict) }
         ensures children { IfOk result (λ judged. AreChildren S.subject.ground item.now judged.children) }
     {
@@ -167,7 +167,7 @@ impl<'a, S: OnSubject> NameJudge<'a, S> {
     }
 
     /// The verdict of a name of the class tree: of the class of the name alone, and of the class below it. What walks of
-    /// the name end in is told where they are seen to go straight. The region of the second query is searched near a
+    /// the name end in is known where they are seen to go straight. The region of the second query is searched near a
     /// place first.
     fn judge_name(
         &self,
@@ -201,7 +201,7 @@ impl<'a, S: OnSubject> NameJudge<'a, S> {
         requires ends { AreStraightEnds S.subject.config S.subject.rewrites S.states name.now.name ends.now }
         ensures { IfOk result (IsNameVerdict S.subject S.states name.now.name) }
     {
-        let exact = self.told(ends, &name.name)?;
+        let exact = self.verdict_by_ends(ends, &name.name)?;
         if ends.unnamed_below {
             self.with_same_below(name, exact, ends)
         } else {
@@ -221,10 +221,10 @@ impl<'a, S: OnSubject> NameJudge<'a, S> {
         requires in_tree { IsInTree S.subject.ground name.now.name }
         requires exact { IsClassVerdict S.subject.config S.subject.rewrites S.states name.now.name exact }
         requires below { (tail : Labels) → IsUnnamedTail S.subject.config name.now.name tail
-            → IsToldFor S.subject.config S.subject.rewrites S.states (told_of name.now.name ends.now) (name.now.name ++ tail) }
+            → IsJudgedBy S.subject.config S.subject.rewrites S.states (faults_by_ends name.now.name ends.now) (name.now.name ++ tail) }
         ensures { IfOk result (IsNameVerdict S.subject S.states name.now.name) }
     {
-        let verdict = self.told(ends, &name.name)?;
+        let verdict = self.verdict_by_ends(ends, &name.name)?;
         let below = self.below_with(name, verdict)?;
         Ok(NameVerdict { exact, below })
     }
@@ -244,7 +244,7 @@ impl<'a, S: OnSubject> NameJudge<'a, S> {
     /// which are those of the names below it too, and no origin of a zone stands below it, as seen near a place.
     fn all_quiet(&self, ends: &Option<StraightEnds<'_, 'a>>, near: usize, query: &Name) -> bool
         requires { IfSome ends.now (AreStraightEnds S.subject.config S.subject.rewrites S.states query.now) }
-        ensures { result ≡ true → IsToldBelow (IsQuiet S.subject S.states) query.now }
+        ensures { result ≡ true → HoldsBelow (IsQuiet S.subject S.states) query.now }
     {
         match ends {
             Some(ends) => {
@@ -261,8 +261,12 @@ impl<'a, S: OnSubject> NameJudge<'a, S> {
     }
 
     /// The verdict of a class that shows the faults that the ends tell of a query, and no others.
-    fn told(&self, ends: &StraightEnds<'_, 'a>, query: &Name) -> Result<ClassVerdict, NoMemory>
-        ensures { IfOk result (λ verdict. (name : Labels) → IsToldFor S.subject.config S.subject.rewrites S.states (told_of query.now ends.now) name
+    fn verdict_by_ends(
+        &self,
+        ends: &StraightEnds<'_, 'a>,
+        query: &Name,
+    ) -> Result<ClassVerdict, NoMemory>
+        ensures { IfOk result (λ verdict. (name : Labels) → IsJudgedBy S.subject.config S.subject.rewrites S.states (faults_by_ends query.now ends.now) name
             → IsClassVerdict S.subject.config S.subject.rewrites S.states name verdict) }
     {
         let shown = ends.shown(self.alloc, query)?;
@@ -357,7 +361,7 @@ impl<'a, S: OnSubject> NameJudge<'a, S> {
         ensures { IfOk result (IsClassVerdict S.subject.config S.subject.rewrites S.states query.now) }
     {
         match self.straight(near, query)? {
-            Some(ends) => self.told(&ends, query),
+            Some(ends) => self.verdict_by_ends(&ends, query),
             None => {
                 let class = Class::Below(above.copy(self.alloc)?);
                 self.looked_class(&class, query)

@@ -11,8 +11,8 @@ use net_model::Class;
 use query_classes::representative;
 use std::alloc::Global;
 
-/// What is known of the class of a query under the base names of its own configuration. It is told of differing
-/// answers, and an overlong rewrite is told of the class's representative alone.
+/// What is known of the class of a query under the base names of its own configuration. Differing answers are a fault of
+/// the class, and an overlong rewrite is one of its representative alone.
 #[derive(Clone, Copy)]
 pub enum OwnClass<'a> {
     /// The query represents this class.

@@ -68,12 +68,12 @@ impl<'a, S: OnSubject> NameJudge<'a, S> {
         ensures none_passes { OnOk result (NonePasses S.subject S.states) }
         ensures fault { IfErr result (IsReportFault S.subject S.states) }
     {
-        let told = self.kept_report::<ReportEntry, W>(filed)?;
+        let made = self.kept_report::<ReportEntry, W>(filed)?;
         Ok(Report {
-            classes: told.classes,
-            names: told.names,
-            rewrites: told.rewrites,
-            entries: told.kept,
+            classes: made.classes,
+            names: made.names,
+            rewrites: made.rewrites,
+            entries: made.kept,
         })
     }
 

@@ -14,7 +14,7 @@ pub trait OnSubject {
     ghost states: { ℕ };
 }
 
-/// The ground of a subject, on which the names of its class tree stand. What may be told of all names at or below one of
+/// The ground of a subject, on which the names of its class tree stand. What may hold of all names at or below one of
 /// them is that they show no fault.
 #[derive(Drop)]
 pub struct SubjectGround<S: OnSubject> {
@@ -26,5 +26,5 @@ impl<S: OnSubject> OnGround for SubjectGround<S> {
 
     ghost ground = { S.subject.ground };
 
-    ghost told = { IsQuiet S.subject S.states };
+    ghost holds = { IsQuiet S.subject S.states };
 }

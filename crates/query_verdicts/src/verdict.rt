@@ -1,9 +1,9 @@
-//! What is told of a class and of a name of the class tree, and how a name's verdict is filed.
+//! The verdicts of a class and of a name of the class tree, and how a name's verdict is filed.
 
 ghost use Rattle.std.specs.Prelude.{◌≡◌, [], IsTrue, IfOk, IfSome, MatchOption, is_some, false};
 ghost use Rattle.std.specs.Arc.{arc_value};
 ghost use Rattle.std.specs.Option.{option_map_or};
-ghost use Rattle.query_verdicts.specs.FiledVerdict.{TellsNothing, verdict_told};
+ghost use Rattle.query_verdicts.specs.FiledVerdict.{TellsNothing, verdict_of_form};
 ghost use Rattle.query_verdicts.specs.Rows.{passes};
 ghost use Rattle.query_verdicts.specs.declared.verdict.ClassVerdict.TheVariants.{Faults};
 
@@ -14,7 +14,7 @@ use std::alloc::Global;
 use std::marker::Model;
 use std::sync::Arc;
 
-/// What is told of a class: the faults that its representative shows, in fault order, each with its first type; or that the
+/// The verdict of a class: the faults that its representative shows, in fault order, each with its first type; or that the
 /// representative reaches more pairs of state and type than are looked at.
 #[derive(Debug, Drop)]
 pub enum ClassVerdict {
@@ -22,22 +22,22 @@ pub enum ClassVerdict {
     StatesPassed,
 }
 
-/// What is told of a name of a class tree: of the class of the name alone, and of the class below it, `None` where that
-/// is empty.
+/// The verdict of a name of a class tree: of the class of the name alone, and of the class below it, `None` where that is
+/// empty.
 #[derive(Debug, Drop)]
 pub struct NameVerdict<C> {
     pub exact: C,
     pub below: Option<C>,
 }
 
-/// The verdict of a name of the class tree, as it is filed. Where it tells nothing, as nearly all do, it takes no
+/// The verdict of a name of the class tree, as it is filed. Where it says nothing, as nearly all do, it takes no
 /// memory of its own, and others may stand in one place of memory. Contracts see the verdict.
 #[derive(Debug, Drop)]
 pub struct FiledVerdict {
-    told: FiledForm,
+    form: FiledForm,
 }
 
-/// How the verdict of a name is filed. Nothing is told of a class whose representative shows no fault and reaches no more
+/// How the verdict of a name is filed. It says nothing of a class whose representative shows no fault and reaches no more
 /// pairs of state and type than are looked at.
 #[derive(Debug, Drop)]
 enum FiledForm {
@@ -68,45 +68,45 @@ impl FiledVerdict {
     ) -> Result<FiledVerdict, NoMemory>
         ensures { IfOk result (λ filed. filed ≡ verdict) }
     {
-        match nothing_told(&verdict) {
-            Some(told) => Ok(FiledVerdict { told }),
+        match short_form(&verdict) {
+            Some(form) => Ok(FiledVerdict { form }),
             None => Ok(FiledVerdict {
-                told: FiledForm::Whole(Arc::new(alloc, verdict)?),
+                form: FiledForm::Whole(Arc::new(alloc, verdict)?),
             }),
         }
     }
 
-    /// The verdict, or `None` where nothing is told.
-    pub(crate) fn told(&self) -> Option<&NameVerdict<ClassVerdict>>
+    /// The verdict, or `None` where it says nothing.
+    pub(crate) fn whole(&self) -> Option<&NameVerdict<ClassVerdict>>
         ensures { MatchOption result (TellsNothing self.now) (λ verdict. verdict.now ≡ self.now) }
     {
-        match &self.told {
+        match &self.form {
             FiledForm::Whole(verdict) => Some(verdict),
             FiledForm::Nothing | FiledForm::NothingAlone => None,
         }
     }
 
-    /// Whether something is told, so that equal verdicts may stand in one place of memory.
+    /// Whether it says something, so that equal verdicts may stand in one place of memory.
     pub fn may_be_shared(&self) -> bool {
-        matches!(self.told, FiledForm::Whole(_))
+        matches!(self.form, FiledForm::Whole(_))
     }
 
-    /// The verdict in the place of another one, where something is told and the two are found to be the same.
+    /// The verdict in the place of another one, where it says something and the two are found to be the same.
     pub fn shared(&self, other: &FiledVerdict) -> Option<FiledVerdict>
         ensures { IfSome result (λ same. same ≡ self.now) }
     {
-        match &other.told {
-            FiledForm::Whole(verdict) if self.is_told(verdict) => again(verdict),
+        match &other.form {
+            FiledForm::Whole(verdict) if self.is_verdict(verdict) => again(verdict),
             _ => None,
         }
     }
 
-    /// Whether this verdict is found to be told.
-    fn is_told(&self, verdict: &NameVerdict<ClassVerdict>) -> bool
+    /// Whether it is found to be this verdict, and says something.
+    fn is_verdict(&self, verdict: &NameVerdict<ClassVerdict>) -> bool
         ensures { IsTrue result → verdict.now ≡ self.now }
     {
-        match self.told() {
-            Some(told) => is_same(verdict, told),
+        match self.whole() {
+            Some(own) => is_same(verdict, own),
             None => false,
         }
     }
@@ -115,7 +115,7 @@ impl FiledVerdict {
     pub(crate) fn exact_passes(&self) -> bool
         ensures { result ≡ passes self.now.exact }
     {
-        match &self.told {
+        match &self.form {
             FiledForm::Whole(verdict) => passes(&verdict.exact),
             FiledForm::Nothing | FiledForm::NothingAlone => false,
         }
@@ -125,7 +125,7 @@ impl FiledVerdict {
     pub(crate) fn below_passes(&self) -> bool
         ensures { result ≡ option_map_or passes self.now.below false }
     {
-        match &self.told {
+        match &self.form {
             FiledForm::Whole(verdict) => passes_below(&verdict.below),
             FiledForm::Nothing | FiledForm::NothingAlone => false,
         }
@@ -135,7 +135,7 @@ impl FiledVerdict {
     pub(crate) fn has_below(&self) -> bool
         ensures { result ≡ is_some self.now.below }
     {
-        match &self.told {
+        match &self.form {
             FiledForm::Whole(verdict) => verdict.below.is_some(),
             FiledForm::Nothing => true,
             FiledForm::NothingAlone => false,
@@ -143,21 +143,21 @@ impl FiledVerdict {
     }
 }
 
-/// A verdict that is told already, in the same place of memory: `None` where that place has too many owners.
+/// A verdict that is filed already, in the same place of memory: `None` where that place has too many owners.
 fn again(verdict: &Arc<NameVerdict<ClassVerdict>>) -> Option<FiledVerdict>
     ensures { IfSome result (λ filed. filed ≡ arc_value verdict.now) }
 {
     match Arc::try_clone(verdict) {
         Ok(same) => Some(FiledVerdict {
-            told: FiledForm::Whole(same),
+            form: FiledForm::Whole(same),
         }),
         Err(_) => None,
     }
 }
 
-/// What is told where that is nothing, or `None` where the verdict says more.
-fn nothing_told(verdict: &NameVerdict<ClassVerdict>) -> Option<FiledForm>
-    ensures { IfSome result (λ told. verdict_told told ≡ verdict.now) }
+/// The form of a verdict that says nothing, or `None` where it says more.
+fn short_form(verdict: &NameVerdict<ClassVerdict>) -> Option<FiledForm>
+    ensures { IfSome result (λ form. verdict_of_form form ≡ verdict.now) }
 {
     if !tells_nothing(&verdict.exact) {
         return None;

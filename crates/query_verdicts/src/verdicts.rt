@@ -16,7 +16,7 @@ ghost use Rattle.net_model.specs.Step.{following};
 ghost use Rattle.rewrite_checks.specs.Rewrites.{IsGraphFor};
 ghost use Rattle.zone_lookup.specs.CutTable.{IsTableOf};
 
-use crate::alike::told_alike;
+use crate::alike::verdict_alike;
 use crate::learnt::Learnt;
 use crate::own_class::{OwnClass, represents};
 use crate::queries::{Queries, graph_of};
@@ -30,7 +30,7 @@ use query_classes::class_of;
 use rewrite_checks::rewrite_faults;
 use std::alloc::Global;
 
-/// The verdict of a query, with what is learnt of its configuration: what is told of all names below one, or else by a
+/// The verdict of a query, with what is learnt of its configuration: what is known of all names below one, or else by a
 /// graph of its walks.
 pub(crate) fn verdict_with(
     queries: &Queries<'_>,
@@ -42,7 +42,7 @@ pub(crate) fn verdict_with(
     requires own { IsOwnClass queries.now.trees own.now query.now }
     ensures { IfOk result (IsClassVerdict queries.now.trees queries.now.rewrites queries.now.states query.now) }
 {
-    match told_alike(queries.alloc, learnt.alike.items(), query)? {
+    match verdict_alike(queries.alloc, learnt.alike.items(), query)? {
         Some(verdict) => Ok(verdict),
         None => verdict_by_graph(queries, learnt, own, query),
     }

@@ -11,7 +11,7 @@ use Rattle.dns_data.proofs.RoundTrip.{text_reads_back}
 use Rattle.graph_form.specs.declared.report.ReportEntry.{ReportEntry}
 use Rattle.report_json.specs.Report.{entry_value}
 use Rattle.serde_json.specs.Data.{Data, string}
-use Rattle.report_check.specs.Right.{NamesQuery}
+use Rattle.report_check.specs.RightEntries.{NamesQuery}
 
 -- names to which one text is read are equal
 one_read : (one other : Labels) (read : Result Labels NameFault) → read ≡ Ok one → read ≡ Ok other → one ≡ other

@@ -24,7 +24,7 @@ use Rattle.report_json.proofs.TextsRead.{report_reads_back}
 use Rattle.report_check.specs.Checked.{IsChecked}
 use Rattle.report_check.specs.Laws.{IsWritable, IsUnrefused}
 use Rattle.report_check.specs.ReportIn.{StatedReport, if_allowed, entries_in, report_in, report_of, rewrites_in}
-use Rattle.report_check.specs.Right.{IsRight}
+use Rattle.report_check.specs.RightEntries.{IsRight}
 use Rattle.report_check.specs.declared.answer.Checked.{Checked}
 use Rattle.report_check.specs.declared.answer.Checked.TheVariants.{Right, Wrong}
 use Rattle.report_check.specs.declared.answer.CheckFault.{CheckFault}

@@ -14,7 +14,7 @@ use Rattle.serde_json.specs.Data.{Data}
 use Rattle.plain_resolver.specs.Passed.{HasMoreWalks, most_walks_followed}
 use Rattle.report_check.specs.Checked.{PassesWalks}
 use Rattle.report_check.specs.Entries.{ByWalks, entry_with, first_repeats}
-use Rattle.report_check.specs.Right.{IsRight, NamesQuery}
+use Rattle.report_check.specs.RightEntries.{IsRight, NamesQuery}
 use Rattle.report_check.proofs.NamedQueries.{entry_names, one_query}
 
 -- the first of the walks

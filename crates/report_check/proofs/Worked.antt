@@ -18,7 +18,7 @@ use Rattle.net_model.proofs.LearntSets.{ByNone, after_same_rounds, is_round}
 use Rattle.report_json.specs.Report.{entry_value}
 use Rattle.serde_json.specs.Read.{read}
 use Rattle.report_check.specs.ReportIn.{StatedReport, report_of}
-use Rattle.report_check.specs.Right.{IsRight, NamesQuery}
+use Rattle.report_check.specs.RightEntries.{IsRight, NamesQuery}
 
 -- ---- what a report states
 

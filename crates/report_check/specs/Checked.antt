@@ -10,7 +10,7 @@ use Rattle.net_model.specs.Nearest.{server_names}
 use Rattle.net_model.specs.Step.{following}
 use Rattle.plain_resolver.specs.Passed.{HasMoreWalks, IsFirstWithTooMany, most_walks_followed}
 use Rattle.report_check.specs.ReportIn.{StatedReport, report_in}
-use Rattle.report_check.specs.Right.{IsRight, NamesQuery}
+use Rattle.report_check.specs.RightEntries.{IsRight, NamesQuery}
 use Rattle.report_check.specs.declared.answer.Checked.{Checked}
 use Rattle.report_check.specs.declared.answer.Checked.TheVariants.{Right, Wrong}
 use Rattle.report_check.specs.declared.answer.CheckFault.{CheckFault}

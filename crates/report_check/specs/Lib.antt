@@ -3,11 +3,11 @@ pub use Rattle.meta_read.specs.Members
 pub use Rattle.net_model.specs.Shown
 pub use Rattle.plain_resolver.specs.Passed
 pub use Rattle.report_json.specs.Report as ReportTexts
-pub mod ReportIn
-pub mod Right
 pub mod Checked
 pub mod Counted
 pub mod Entries
+pub mod Laws
+pub mod ReportIn
+pub mod RightEntries
 pub mod Steps
 pub mod WalkFaults
-pub mod Laws

@@ -9,7 +9,7 @@ ghost use Rattle.report_json.specs.Json.{name_value};
 ghost use Rattle.serde_json.specs.Data.{string};
 ghost use Rattle.serde_json.specs.Find.{get};
 ghost use Rattle.serde_json.specs.View.{view};
-ghost use Rattle.report_check.specs.Right.{NamesQuery};
+ghost use Rattle.report_check.specs.RightEntries.{NamesQuery};
 
 use dns_data::{Name, NameFault, NoMemory, RrType};
 use meta_read::text_at;

@@ -9,7 +9,7 @@ ghost use Rattle.serde_json.specs.View.{view};
 
 use crate::answer::{CheckFault, Checked};
 use crate::checker::Checker;
-use crate::right::is_right;
+use crate::right_entry::is_right;
 use plain_resolver::ResolveFault;
 use serde_json::Value;
 use std::alloc::Global;

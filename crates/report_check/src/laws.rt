@@ -10,7 +10,7 @@ ghost use Rattle.report_json.specs.Report.{entry_value, report_text};
 ghost use Rattle.report_check.specs.Checked.{IsChecked};
 ghost use Rattle.report_check.specs.Laws.{IsWritable, IsUnrefused};
 ghost use Rattle.report_check.specs.ReportIn.{report_in};
-ghost use Rattle.report_check.specs.Right.{IsRight};
+ghost use Rattle.report_check.specs.RightEntries.{IsRight};
 ghost use Rattle.report_check.specs.declared.answer.Checked.{Checked};
 ghost use Rattle.report_check.specs.declared.answer.CheckFault.{CheckFault};
 ghost use Rattle.report_check.specs.declared.answer.CheckFault.TheVariants.{NoMemory};

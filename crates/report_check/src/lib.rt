@@ -30,7 +30,7 @@ mod faults;
 pub mod laws;
 mod learning;
 mod members;
-mod right;
+mod right_entry;
 mod steps;
 mod texts;
 

@@ -1,4 +1,4 @@
--- The first class of which something is told, from the rows of the joint class tree.
+-- The first class of a verdict that is sought, from the rows of the joint class tree.
 use Rattle.std.proofs.Common.{◌≡◌, ◌≢◌, ◌∙◌, ℕ, ◌<◌, true, false, List, [], length, get_or, Option, Some, None, refl, sym, ap, subst, true≢false}
 use Rattle.std.specs.declared.cmp.Ordering.TheVariants.{Less}
 use Rattle.std.specs.Option.{option_map_or}
@@ -31,7 +31,7 @@ use Rattle.same_answers.proofs.OneSameness.{one_end}
 use Rattle.same_answers.proofs.PairEnds.{end_exists}
 
 module _ (two : Compared) (sought : Sought) where
-  -- what is told of a representative is told of it alone
+  -- a representative has one verdict
   same_end : (class : Class) (query also : Labels) (end other : PairEnd) → IsRepresentative (joint two) class query → IsRepresentative (joint two) class also
       → IsPairEnd two query end → IsPairEnd two also other → other ≡ end
   same_end class query also end other stands represents is told =
@@ -44,7 +44,7 @@ module _ (two : Compared) (sought : Sought) where
     exact_ends : (end : PairEnd) → IsPairEnd two name end → ClassEnds two (Exact name) name end
     exact_ends end is = record { is_class = in_tree; represents = refl; is_end = is }
 
-    -- what is told of the name alone, where it isn't what is sought, is that of no class that is it
+    -- the verdict of the name alone, where it isn't sought, is that of no class that is it
     not_exact : (exact : PairEnd) → IsPairEnd two name exact → is_sought sought exact ≡ false
         → (alone query : Labels) (end : PairEnd) → alone ≡ name → ClassEnds two (Exact alone) query end → is_sought sought end ≡ true → ⊥
     not_exact exact is e alone query end of_name ends holds =
@@ -113,14 +113,14 @@ module _ (two : Compared) (sought : Sought) where
   -- ---- the classes of all names
 
   module _ {W : Type 0} (rows : List (TreeRow W PairEnd)) (are : ArePairRows two rows) where
-    -- what is sought is told of the class
+    -- the class's verdict is sought
     abbrev IsSought : Class → SoughtClass → Type 0
     IsSought class found = ClassEnds two class found.query found.end × (is_sought sought found.end ≡ true)
 
     is_of_tree : (class : Class) (found : SoughtClass) → IsSought class found → IsInPart (joint two) [] (class_name class)
     is_of_tree class found (ends, holds) = record { named = ends.is_class.0; is_name = ends.is_class.1; within = refl }
 
-    -- if what is sought is told of no class of any row's name, it is told of no class
+    -- if no class of any row's name has a verdict that is sought, no class has one
     pub none_of_rows : ((k : ℕ) (d : TreeRow W PairEnd) → k < length rows → NoneSoughtAt two sought (get_or rows k d).item) → NoneSought two sought
     none_of_rows none class query end ends holds =
         none_in_rows rows are IsSought is_of_tree (λ k d within other found of_name is. none k d within other found.query found.end of_name is.0 is.1)
@@ -164,13 +164,13 @@ module _ (two : Compared) where
     by Unbounded e ends = absurd (true≢false (sym e))
 
   module _ (few : SomeClassPassesInOne two → ⊥) (learnt : SomeServerPassesInOne two → ⊥) where
-    -- what is told of a representative that is bounded and whose outcomes differ is that they do
-    apart_told : (class : Class) (query : Labels) → ClassIsApart two class query → (end : PairEnd) → IsPairEnd two query end → is_sought sought_as.Apart end ≡ true
-    apart_told class query apart (Apart rtype) is = refl
-    apart_told class query apart StatesPassed is =
+    -- the verdict of a representative that is bounded and whose outcomes differ is that they do
+    apart_found : (class : Class) (query : Labels) → ClassIsApart two class query → (end : PairEnd) → IsPairEnd two query end → is_sought sought_as.Apart end ≡ true
+    apart_found class query apart (Apart rtype) is = refl
+    apart_found class query apart StatesPassed is =
         absurd (few (class, query, record { is_class = apart.is_class; represents = apart.represents; passes = is }))
-    apart_told class query apart Unbounded is = absurd (is.1 apart.bounded)
-    apart_told class query apart Equal is = absurd (apart.differ.1 ((is.1 learnt).1 apart.differ.0))
+    apart_found class query apart Unbounded is = absurd (is.1 apart.bounded)
+    apart_found class query apart Equal is = absurd (apart.differ.1 ((is.1 learnt).1 apart.differ.0))
 
     -- if the search finds no class with other outcomes in the two configurations, all classes have the same
     pub all_same : NoneSought two sought_as.Apart → ClassesAlike two
@@ -198,13 +198,13 @@ module _ (two : Compared) where
           is_name = representative_is_name two is.class query is.ends.is_class is.ends.represents;
           first_class = λ other name apart.
               let (end, told) = end_exists two name in
-              is.first other name end (record { is_class = apart.is_class; represents = apart.represents; is_end = told }) (apart_told other name apart end told);
+              is.first other name end (record { is_class = apart.is_class; represents = apart.represents; is_end = told }) (apart_found other name apart end told);
           first_type = is.ends.is_end.2;
         }
 
-    -- what is told of the first class with other outcomes is what is told of the two configurations
-    pub told_apart : (found : SoughtClass) (sameness : Sameness) → IsFirstSought two sought_as.Apart found → IsApartBy found sameness → IsSameness two sameness
-    told_apart found sameness is (rtype, end, told) =
+    -- the verdict of the first class with other outcomes is the answer for the two configurations
+    pub apart_answer : (found : SoughtClass) (sameness : Sameness) → IsFirstSought two sought_as.Apart found → IsApartBy found sameness → IsSameness two sameness
+    apart_answer found sameness is (rtype, end, told) =
         subst (IsSameness two) (sym told)
         (apart_first found.query rtype
         (subst (λ (e : PairEnd). IsFirstSought two sought_as.Apart (record { query = found.query; end = e })) end is))

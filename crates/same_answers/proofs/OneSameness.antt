@@ -1,4 +1,4 @@
--- One thing is told of a class of the joint tree and of two configurations.
+-- A class of the joint tree has one verdict, and two configurations have one answer.
 use Rattle.std.proofs.Common.{◌≡◌, ◌∙◌, ℕ, [], refl, ap, subst, arith}
 use Rattle.dns_data.specs.Name.{Labels}
 use Rattle.dns_data.specs.declared.rr_type.RrType.{RrType}
@@ -13,7 +13,7 @@ use Rattle.same_answers.specs.Passed.{IsFirstPassedInOne}
 use Rattle.same_answers.specs.Sameness.{IsFirstDifference, IsSameness}
 use Rattle.same_answers.specs.Verdict.{IsFirstApart, IsPairEnd}
 use Rattle.same_answers.specs.declared.sameness.Sameness.{Sameness}
-use Rattle.same_answers.specs.declared.sameness.Sameness.TheVariants as told
+use Rattle.same_answers.specs.declared.sameness.Sameness.TheVariants as sameness_as
 use Rattle.same_answers.specs.declared.verdict.PairEnd.{PairEnd}
 use Rattle.same_answers.specs.declared.verdict.PairEnd.TheVariants.{Equal, Apart, Unbounded, StatesPassed}
 
@@ -50,25 +50,25 @@ module _ (two : Compared) where
   one_query c d a b same one other =
       one_representative (joint two) d a b (subst (λ (class : Class). IsRepresentative (joint two) class a) same one) other
 
-  one_difference : (a b : Labels) (r t : RrType) → IsFirstDifference two a r → IsFirstDifference two b t → told.Apart a r ≡ told.Apart b t
+  one_difference : (a b : Labels) (r t : RrType) → IsFirstDifference two a r → IsFirstDifference two b t → sameness_as.Apart a r ≡ sameness_as.Apart b t
   one_difference a b r t one other =
       let class : one.class ≡ other.class =
       neither_before class_cmp classes_total one_class one.class other.class
       (other.first_class one.class a one.apart) (one.first_class other.class b other.apart) in
       let query : a ≡ b = one_query one.class other.class a b class one.apart.represents other.apart.represents in
       let rtype : r ≡ t = one_first two b r t (subst (λ (name : Labels). IsFirstApart two name r) query one.first_type) other.first_type in
-      ap (λ (name : Labels). told.Apart name r) query ∙ ap (λ (other : RrType). told.Apart b other) rtype
+      ap (λ (name : Labels). sameness_as.Apart name r) query ∙ ap (λ (other : RrType). sameness_as.Apart b other) rtype
 
   -- two comparisons of the same configurations are equal
   pub one_sameness : (a b : Sameness) → IsSameness two a → IsSameness two b → a ≡ b
-  one_sameness (told.Same classes names) (told.Same classes' names') one other =
+  one_sameness (sameness_as.Same classes names) (sameness_as.Same classes' names') one other =
       let (same_names, same_classes) = one_size (joint two) [] names classes names' classes' one.0 other.0 in
-      ap (λ (n : ℕ). told.Same n names) same_classes ∙ ap (λ (n : ℕ). told.Same classes' n) same_names
-  one_sameness (told.Same classes names) (told.Apart query rtype) one other =
+      ap (λ (n : ℕ). sameness_as.Same n names) same_classes ∙ ap (λ (n : ℕ). sameness_as.Same classes' n) same_names
+  one_sameness (sameness_as.Same classes names) (sameness_as.Apart query rtype) one other =
       absurd (other.first_type.differ (one.1 query other.is_name other.apart.bounded rtype))
-  one_sameness (told.Apart query rtype) (told.Same classes names) one other =
+  one_sameness (sameness_as.Apart query rtype) (sameness_as.Same classes names) one other =
       absurd (one.first_type.differ (other.1 query one.is_name one.apart.bounded rtype))
-  one_sameness (told.Apart a r) (told.Apart b t) one other = one_difference a b r t one other
+  one_sameness (sameness_as.Apart a r) (sameness_as.Apart b t) one other = one_difference a b r t one other
 
   -- one representative is the first that passes in one of the configurations
   pub one_passed : (a b : Labels) → IsFirstPassedInOne two a → IsFirstPassedInOne two b → a ≡ b

@@ -1,5 +1,5 @@
--- What the graphs of a query's walks, or their straight ends, tell of it is what is told of its class; and of each class
--- something is told.
+-- What the graphs of a query's walks, or their straight ends, tell of it is the verdict of its class; and each class has
+-- one.
 use Rattle.std.proofs.Common.{◌≡◌, ◌↔◌, ℕ, Bool, true, false, not, ◌&&◌, List, map, Contains, Option, Some, None, refl, sym, ap, ◌∙◌, subst, inl, inr, true≢false}
 use Rattle.std.specs.Prelude.{if◌then◌else◌}
 use Rattle.std.specs.List.{find}
@@ -122,12 +122,12 @@ module _ (config : Config) (rewrites : ℕ) (query : Labels) where
         (one_in_force config rewrites followed bounded.followed in_force bounded.in_force) is_walk in
         bounded.bounded rtype walk place also is
 
-    told_bounded : Decided (IsBoundedIn config rewrites query)
-    told_bounded = turned none_overlong not_bounded (not_so (any_of MeetsOverlong overlong_decided types))
+    bounded_so : Decided (IsBoundedIn config rewrites query)
+    bounded_so = turned none_overlong not_bounded (not_so (any_of MeetsOverlong overlong_decided types))
 
   -- whether no walk of the query takes more rewrites than are allowed is decided
   pub bounded_decided : Decided (IsBoundedIn config rewrites query)
-  bounded_decided = let (followed, in_force) = some_in_force config rewrites in told_bounded followed in_force
+  bounded_decided = let (followed, in_force) = some_in_force config rewrites in bounded_so followed in_force
 
 -- ---- whether two have the same outcomes
 
@@ -157,13 +157,13 @@ module _ (two : Compared) (query : Labels) (rtype : RrType) (some others : List 
         ((within_by_ends others some).1 (λ leaf has.
         (of_first (outcome_of leaf)).0 ((alike (outcome_of leaf)).1 ((of_second (outcome_of leaf)).1 (leaf, has, refl)))))
 
--- ---- what is told of a bounded query by tests that tell with which types it is alike in both
+-- ---- the verdict of a bounded query by tests that tell with which types it is alike in both
 
 module _ (two : Compared) (query : Labels) (looked : CanBeCompared two query) (bounded : AreBounded two query)
     (test : RrType → Bool) (tells : (rtype : RrType) → (test rtype ≡ true) ↔ AnswersAlike two query rtype) where
-  told_so : (b : Bool) → not b ≡ false → b ≡ true
-  told_so true e = refl
-  told_so false e = absurd (true≢false e)
+  test_so : (b : Bool) → not b ≡ false → b ≡ true
+  test_so true e = refl
+  test_so false e = absurd (true≢false e)
 
   fails : (rtype : RrType) → (b : Bool) → test rtype ≡ b → (AnswersAlike two query rtype → ⊥) → not b ≡ true
   fails rtype true e differ = absurd (differ ((tells rtype).0 e))
@@ -176,7 +176,7 @@ module _ (two : Compared) (query : Labels) (looked : CanBeCompared two query) (b
   pub end_by_tests : (found : Option RrType) → found ≡ find (λ rtype. not (test rtype)) types → IsPairEnd two query (option_map_or Apart found Equal)
   end_by_tests None e = (
     looked.few,
-    λ none. (bounded, λ rtype. (tells rtype).0 (told_so (test rtype) ((first_none (λ rtype. not (test rtype)) None e).0 refl rtype))),
+    λ none. (bounded, λ rtype. (tells rtype).0 (test_so (test rtype) ((first_none (λ rtype. not (test rtype)) None e).0 refl rtype))),
   )
   end_by_tests (Some rtype) e = (
     looked,
@@ -187,7 +187,7 @@ module _ (two : Compared) (query : Labels) (looked : CanBeCompared two query) (b
     },
   )
 
--- ---- what is told by what is found in both
+-- ---- the verdict by what is found in both
 
 module _ (two : Compared) (query : Labels) where
   none_passes : (PassesStates two.first two.rewrites two.states query → ⊥) → (PassesStates two.second two.rewrites two.states query → ⊥)
@@ -231,7 +231,7 @@ module _ (two : Compared) (query : Labels) where
   end_by_looked (Walks first) (Walks second) one other =
       by_graphs first second (record { few = none_passes one.0 other.0; learnt = no_server_passes one.1 other.1 }) one.2 other.2
 
-  -- ---- what is told where walks go straight in both
+  -- ---- the verdict where walks go straight in both
 
   module _ (config : Config) (ends : StraightEnds) (are : AreStraightEnds config two.rewrites two.states query ends) where
     bounded_straight : IsBoundedIn config two.rewrites query
@@ -271,7 +271,7 @@ module _ (two : Compared) (query : Labels) where
             )),
       )
 
-  -- ---- so of each query something is told
+  -- ---- so each query has a verdict
 
   bounded_end : CanBeCompared two query → AreBounded two query → (end : PairEnd) × IsPairEnd two query end
   bounded_end looked bounded = (

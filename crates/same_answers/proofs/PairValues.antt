@@ -40,7 +40,7 @@ module _ (two : Compared) where
   decided : (above : Labels) → IsName above → Decided ((query : Labels) × IsRepresentative (joint two) (Below above) query)
   decided = below_decided (joint two) joint_closed (live_set_of (joint two) joint_closed)
 
-  -- the verdict of a name; of what isn't a name nothing is told
+  -- the verdict of a name; of what isn't a name it says nothing
   pub verdict_of : Labels → NameVerdict PairEnd
   verdict_of = verdicts.verdict_of (joint two) (IsPairEnd two) Equal (λ query is. end_exists two query) decided
 

@@ -14,7 +14,7 @@ IsLooked queries query Unlearnt = (Passes queries query → ⊥) × ServerPasses
 IsLooked queries query (Walks graph) =
     (Passes queries query → ⊥) × (ServerPasses queries → ⊥) × IsLeastGraph queries.config queries.rewrites query graph
 
--- what is told by what is found in both configurations
+-- the verdict by what is found in both configurations
 abbrev pub looked_end : Looked → Looked → PairEnd
 looked_end Passed second = StatesPassed
 looked_end Unlearnt Passed = StatesPassed

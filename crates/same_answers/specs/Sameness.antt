@@ -1,4 +1,4 @@
--- What is told of two configurations: that no query tells them apart, or one that does.
+-- The answer for two configurations: that no query tells them apart, or one that does.
 use Rattle.std.specs.Prelude.{◌≢◌, []}
 use Rattle.std.specs.declared.cmp.Ordering.TheVariants.{Less}
 use Rattle.dns_data.specs.Name.{Labels, IsName}
@@ -33,13 +33,13 @@ pub record IsFirstDifference (two : Compared) (query : Labels) (rtype : RrType) 
   pub first_class : (other : Class) (name : Labels) → ClassIsApart two other name → class_cmp other class ≢ Less
   pub first_type : IsFirstApart two query rtype
 
--- what is told: no query that both bound has other outcomes in the one than in the other, with the number of the names
+-- the answer: no query that both bound has other outcomes in the one than in the other, with the number of the names
 -- and of the classes that aren't empty of the joint tree; or the first query that has
 abbrev pub IsSameness : Compared → Sameness → Type 0
 IsSameness two (Same classes names) = IsTreeSize (joint two) [] names classes × AllAlike two
 IsSameness two (Apart query rtype) = IsFirstDifference two query rtype
 
--- what is told where the configurations aren't compared
+-- the refusal where the configurations aren't compared
 abbrev pub IsSameFault : Compared → JudgeFault → Type 0
 IsSameFault two (faults.StatesPassed query) = IsFirstPassedInOne two query
 IsSameFault two faults.NoMemory = Unit {0}

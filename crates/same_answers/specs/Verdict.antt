@@ -30,8 +30,8 @@ pub record IsFirstApart (two : Compared) (query : Labels) (rtype : RrType) : Typ
   pub differ : AnswersAlike two query rtype → ⊥
   pub first : (other : RrType) → (AnswersAlike two query other → ⊥) → number_of rtype ≤ number_of other
 
--- What is told of the class that the query represents. Where the name of some server passes, outcomes aren't looked
--- for, and nothing is told apart: some representative passes then.
+-- The verdict of the class that the query represents. Where the name of some server passes, outcomes aren't looked
+-- for, and none are found apart: some representative passes then.
 abbrev pub IsPairEnd : Compared → Labels → PairEnd → Type 0
 IsPairEnd two query StatesPassed = PassesInOne two query
 IsPairEnd two query Unbounded = CanBeCompared two query × (AreBounded two query → ⊥)
@@ -40,7 +40,7 @@ IsPairEnd two query Equal =
     (PassesInOne two query → ⊥)
     × ((SomeServerPassesInOne two → ⊥) → AreBounded two query × ((rtype : RrType) → AnswersAlike two query rtype))
 
--- what is told of the class below a name of the joint class tree, if it has a representative
+-- the verdict of the class below a name of the joint class tree, if it has a representative
 abbrev pub IsBelowEnd : Compared → Labels → Option PairEnd → Type 0
 IsBelowEnd two above below = IsVerdictBelow (joint two) (IsPairEnd two) above below
 

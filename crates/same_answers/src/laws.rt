@@ -21,7 +21,7 @@ pub fn comparing()
     ensures { (two : Compared) → AllAlike two ↔ ClassesAlike two }
 {}
 
-/// One thing is told of two configurations, and one representative is the first that reaches too many pairs of state
+/// Two configurations have one answer, and one representative is the first that reaches too many pairs of state
 /// and type.
 pub fn one_sameness()
     ensures one { (two : Compared) (a b : Sameness) → IsSameness two a → IsSameness two b → a ≡ b }

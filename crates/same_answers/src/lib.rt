@@ -2,7 +2,7 @@
 //!
 //! The layer above may rest on this: each query of at most 255 octets that both configurations bound has the same
 //! outcomes in both, with each type, exactly where so has the representative of each class that they bound, under the
-//! ground of both (`laws::comparing`); so what `Pairing` tells of representatives is told of all queries. `Pairing` is
+//! ground of both (`laws::comparing`); so what `Pairing` finds of representatives holds of all queries. `Pairing` is
 //! a work whose items are the names of the class tree of that ground, whose children are those of the tree and whose
 //! verdicts are the one that each name has.
 //!

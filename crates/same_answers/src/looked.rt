@@ -41,7 +41,7 @@ pub(crate) fn looked_at(graphs: &QueryGraphs<'_>, query: &Name) -> Result<Looked
     }
 }
 
-/// What is told of a class by what is found of its representative in both configurations.
+/// The verdict of a class by what is found of its representative in both configurations.
 pub(crate) fn looked_end(
     alloc: Global,
     first: &Looked,
@@ -56,7 +56,7 @@ pub(crate) fn looked_end(
     }
 }
 
-/// What is told of it by the graphs of its walks.
+/// The verdict by the graphs of its walks.
 fn graphs_end(alloc: Global, first: &Graph, second: &Graph) -> Result<PairEnd, NoMemory>
     ensures { IfOk result (λ end. end ≡ graphs_end first.now second.now) }
 {

@@ -35,7 +35,7 @@ impl PairNaming for Brand {
     ghost apart = { childless_apart [] };
 }
 
-/// The joint ground of the two configurations of a name, on which the names of their class tree stand. Nothing is told of
+/// The joint ground of the two configurations of a name, on which the names of their class tree stand. Nothing is said of
 /// all names at or below one of them.
 #[derive(Drop)]
 pub struct JointGround<N: PairNaming> {
@@ -45,5 +45,5 @@ pub struct JointGround<N: PairNaming> {
 impl<N: PairNaming> OnGround for JointGround<N> {
     ghost ground = { joint N.compared };
 
-    ghost told = { λ _. ⊤ };
+    ghost holds = { λ _. ⊤ };
 }

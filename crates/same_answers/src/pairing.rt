@@ -137,7 +137,7 @@ impl<'a, N: PairNaming> Pairing<'a, N> {
         })
     }
 
-    /// What is told of the class below a name of the class tree, or `None` where it is empty.
+    /// The verdict of the class below a name of the class tree, or `None` where it is empty.
     fn judge_below(
         &self,
         near: &mut PairNear,
@@ -153,7 +153,7 @@ impl<'a, N: PairNaming> Pairing<'a, N> {
         }
     }
 
-    /// What is told of the class that the query represents. Graphs are made where its walks aren't seen to go straight
+    /// The verdict of the class that the query represents. Graphs are made where its walks aren't seen to go straight
     /// in both.
     fn judge_class(&self, near: &mut PairNear, query: &Name) -> Result<PairEnd, NoMemory>
         ensures { IfOk result (IsPairEnd N.compared query.now) }
@@ -164,7 +164,7 @@ impl<'a, N: PairNaming> Pairing<'a, N> {
         }
     }
 
-    /// What is told of the class that the query represents where its walks are seen to go straight in both, or `None`.
+    /// The verdict of the class that the query represents where its walks are seen to go straight in both, or `None`.
     fn straight_class(&self, near: &mut PairNear, query: &Name) -> Result<Option<PairEnd>, NoMemory>
         ensures { IfOk result (λ found. IfSome found (IsPairEnd N.compared query.now)) }
     {
@@ -177,7 +177,7 @@ impl<'a, N: PairNaming> Pairing<'a, N> {
         Ok(Some(straight_end(&first, &second)))
     }
 
-    /// What is told of the class that the query represents, by the graphs of its walks.
+    /// The verdict of the class that the query represents, by the graphs of its walks.
     fn looked_class(&self, query: &Name) -> Result<PairEnd, NoMemory>
         ensures { IfOk result (IsPairEnd N.compared query.now) }
     {

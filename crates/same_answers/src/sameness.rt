@@ -18,7 +18,7 @@ use query_classes::TreeName;
 use query_verdicts::{JudgeFault, NameVerdict};
 use verdict_book::{Filed, Work};
 
-/// What is told of two configurations.
+/// Whether two configurations give the same outcomes.
 #[derive(Debug, Drop)]
 pub enum Sameness {
     /// Each query of at most 255 octets that both bound has the same outcomes in both, with each type. This many
@@ -30,9 +30,9 @@ pub enum Sameness {
 }
 
 impl<'a, N: PairNaming + Send> Pairing<'a, N> {
-    /// What is told of the two configurations, from the verdicts of all names of their joint class tree. `Same` speaks
-    /// of every query that both bound, and `Apart` names one. Where some representative reaches more pairs of state and
-    /// type than are looked at, in one of the configurations, it is `StatesPassed` with the first such one.
+    /// Whether the two configurations give the same outcomes, from the verdicts of all names of their joint class tree.
+    /// `Same` speaks of every query that both bound, and `Apart` names one. Where some representative reaches more pairs of
+    /// state and type than are looked at, in one of the configurations, it is `StatesPassed` with the first such one.
     pub fn outcome(&self, filed: List<Filed<Pairing<'a, N>>>) -> Result<Sameness, JudgeFault>
         requires whole { IsWholeTree name_cmp [] N.children_of N.verdict_of filed }
         requires few { length filed < 2 ^ 31 }
@@ -42,11 +42,11 @@ impl<'a, N: PairNaming + Send> Pairing<'a, N> {
     {
         // The memory is asked, so that what the work is made of is known here.
         let _ = self.alloc();
-        self.told_of(filed)
+        self.by_names(filed)
     }
 
-    /// What is told by the names of the tree with their verdicts.
-    fn told_of<W: Work<Item = TreeName<JointGround<N>>, Verdict = NameVerdict<PairEnd>>>(
+    /// Whether they do, by the names of the tree with their verdicts.
+    fn by_names<W: Work<Item = TreeName<JointGround<N>>, Verdict = NameVerdict<PairEnd>>>(
         &self,
         filed: List<Filed<W>>,
     ) -> Result<Sameness, JudgeFault>
@@ -56,11 +56,11 @@ impl<'a, N: PairNaming + Send> Pairing<'a, N> {
         ensures none_passes { OnOk result (SomeClassPassesInOne N.compared → ⊥) }
         ensures fault { IfErr result (IsSameFault N.compared) }
     {
-        self.told_by(filed.items())
+        self.by_rows(filed.items())
     }
 
-    /// What is told by the rows of the tree.
-    fn told_by<W: Work<Item = TreeName<JointGround<N>>, Verdict = NameVerdict<PairEnd>>>(
+    /// Whether they do, by the rows of the tree.
+    fn by_rows<W: Work<Item = TreeName<JointGround<N>>, Verdict = NameVerdict<PairEnd>>>(
         &self,
         rows: &[Filed<W>],
     ) -> Result<Sameness, JudgeFault>

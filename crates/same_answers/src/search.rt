@@ -1,4 +1,4 @@
-//! The first class of which something is told.
+//! The first class of a verdict that is sought.
 
 ghost use Rattle.std.specs.Prelude.{◌≡◌, Some, false, true, IfOk, MatchOption};
 ghost use Rattle.std.specs.Option.{option_map_or};
@@ -24,7 +24,7 @@ pub(crate) enum Sought {
     Apart,
 }
 
-/// The representative of a class, and what is told of the class.
+/// The representative of a class, and the class's verdict.
 #[derive(Debug, Drop)]
 pub(crate) struct SoughtClass {
     pub query: Name,
@@ -32,7 +32,7 @@ pub(crate) struct SoughtClass {
 }
 
 impl<'a, N: PairNaming> Pairing<'a, N> {
-    /// The first class in class order of which it is told, or `None` where it is told of none.
+    /// The first class in class order of a verdict that is sought, or `None` where there is none.
     pub(crate) fn first_sought<
         W: Work<Item = TreeName<JointGround<N>>, Verdict = NameVerdict<PairEnd>>,
     >(&self, filed: &[Filed<W>], sought: Sought) -> Result<Option<SoughtClass>, NoMemory>
@@ -47,7 +47,7 @@ impl<'a, N: PairNaming> Pairing<'a, N> {
         Ok(None)
     }
 
-    /// The first class of a name of which it is told, or `None` where it is told of none.
+    /// The first class of a name with such a verdict, or `None` where there is none.
     fn sought_at(
         &self,
         name: &LiveName,
@@ -72,7 +72,7 @@ impl<'a, N: PairNaming> Pairing<'a, N> {
         }
     }
 
-    /// The class below a name of the class tree, of which this is told, or `None` where it is empty.
+    /// The class below a name of the class tree, of which this is the verdict, or `None` where it is empty.
     fn found_below(&self, above: &LiveName, end: PairEnd) -> Result<Option<SoughtClass>, NoMemory>
         requires live { IsLiveIn (joint N.compared) above.now.name above.now.live }
         requires in_tree { IsInTree (joint N.compared) above.now.name }
@@ -85,7 +85,7 @@ impl<'a, N: PairNaming> Pairing<'a, N> {
     }
 }
 
-/// What is told of the class below a name, where that is what is sought, or `None`.
+/// The verdict of the class below a name, where it is sought, or `None`.
 fn sought_below(sought: Sought, below: Option<PairEnd>) -> Option<PairEnd>
     ensures { MatchOption result (option_map_or (is_sought sought) below false ≡ false) (λ end. (below ≡ Some end) × (is_sought sought end ≡ true)) }
 {

@@ -7,7 +7,7 @@ use crate::verdict::PairEnd;
 use dns_data::RrType;
 use straight_walks::StraightEnds;
 
-/// What is told of a class by what the walks of its representative end in, which go straight in both configurations:
+/// The verdict of a class by what the walks of its representative end in, which go straight in both configurations:
 /// the first type with which these outcomes differ, if they do with some.
 pub(crate) fn straight_end(first: &StraightEnds<'_, '_>, second: &StraightEnds<'_, '_>) -> PairEnd
     ensures { result ≡ straight_end first.now second.now }

@@ -17,9 +17,9 @@ use Rattle.net_model.specs.declared.config.Config.{Config}
 use Rattle.net_model.specs.declared.walk.Leaf.{Leaf}
 use Rattle.walk_laws.specs.Outcome.{HasOutcome}
 use Rattle.straight_walks.specs.Ends.{IsOutcomeOf}
-use Rattle.straight_walks.specs.Searching.{GoesStraightIn, nothing_below, HoldsOfEachTold}
+use Rattle.straight_walks.specs.Searching.{GoesStraightIn, nothing_below, HoldsOfEachName}
 use Rattle.straight_walks.specs.Faulty.{AreAbove, ShowsThese}
-use Rattle.straight_walks.specs.Straight.{GoesStraight, NoOriginBetween, told_of}
+use Rattle.straight_walks.specs.Straight.{GoesStraight, NoOriginBetween, faults_by_ends}
 use Rattle.straight_walks.specs.declared.ends.StraightEnds.{StraightEnds}
 use Rattle.straight_walks.proofs.FewStates.{few_states}
 use Rattle.straight_walks.proofs.LeastFollowed.{all_followed, least_followed}
@@ -43,10 +43,10 @@ module _ (config : Config) (deps : Deps) (rewrites most : ℕ) (query : Labels) 
 -- where ends are given
 module _ (config : Config) (deps : Deps) (rewrites most : ℕ) (query : Labels) {E : Type 0} (given : Result (Option StraightEnds) E) where
   -- what holds of the ends of straight walks holds of these
-  by_straight : (Q : StraightEnds → Type 0) → ((ends : StraightEnds) → HoldsOfEachTold config query (GoesStraightIn config deps rewrites most) ends → Q ends)
-      → IfOk given (λ found. IfSome found (HoldsOfEachTold config query (GoesStraightIn config deps rewrites most))) → IfOk given (λ found. IfSome found Q)
+  by_straight : (Q : StraightEnds → Type 0) → ((ends : StraightEnds) → HoldsOfEachName config query (GoesStraightIn config deps rewrites most) ends → Q ends)
+      → IfOk given (λ found. IfSome found (HoldsOfEachName config query (GoesStraightIn config deps rewrites most))) → IfOk given (λ found. IfSome found Q)
   by_straight Q so = by given where
-    by : (given : Result (Option StraightEnds) E) → IfOk given (λ found. IfSome found (HoldsOfEachTold config query (GoesStraightIn config deps rewrites most)))
+    by : (given : Result (Option StraightEnds) E) → IfOk given (λ found. IfSome found (HoldsOfEachName config query (GoesStraightIn config deps rewrites most)))
         → IfOk given (λ found. IfSome found Q)
     by (Ok None) straight = tt
     by (Ok (Some ends)) straight = so ends straight
@@ -57,14 +57,14 @@ module _ (config : Config) (deps : Deps) (rewrites most : ℕ) (query : Labels) 
   are_above ends straight = (in_least config deps rewrites most query ends straight types.A).above
 
   -- a query with known ends reaches few pairs of state and type
-  pub few_given : (states : ℕ) → most * 12 ≤ states → IfOk given (λ found. IfSome found (HoldsOfEachTold config query (GoesStraightIn config deps rewrites most)))
+  pub few_given : (states : ℕ) → most * 12 ≤ states → IfOk given (λ found. IfSome found (HoldsOfEachName config query (GoesStraightIn config deps rewrites most)))
       → IfOk given (λ found. IfSome found (λ ends. HasMoreThan (IsReached config rewrites query) states → ⊥))
   few_given states fits =
       by_straight (λ ends. HasMoreThan (IsReached config rewrites query) states → ⊥)
       (λ ends straight. few_states config rewrites deps most query ends (in_all config deps rewrites most query ends (straight query ends (inl (refl, refl)))) states fits)
 
   -- names below the query whose ends are the query's reach few pairs of state and type
-  pub few_given_below : (states : ℕ) → most * 12 ≤ states → IfOk given (λ found. IfSome found (HoldsOfEachTold config query (GoesStraightIn config deps rewrites most)))
+  pub few_given_below : (states : ℕ) → most * 12 ≤ states → IfOk given (λ found. IfSome found (HoldsOfEachName config query (GoesStraightIn config deps rewrites most)))
       → IfOk given (λ found. IfSome found (λ ends. ends.below ≡ true → (name : Labels) → NoOriginBetween config query name
       → HasMoreThan (IsReached config rewrites name) states → ⊥))
   few_given_below states fits =
@@ -73,7 +73,7 @@ module _ (config : Config) (deps : Deps) (rewrites most : ℕ) (query : Labels) 
       few_states config rewrites deps most name ends (in_all config deps rewrites most name ends (straight name ends (inr (inl (below, between, refl))))) states fits)
 
   -- the query with an unnamed tail reaches few pairs of state and type, if its ends are known then
-  pub few_given_unnamed : (states : ℕ) → most * 12 ≤ states → IfOk given (λ found. IfSome found (HoldsOfEachTold config query (GoesStraightIn config deps rewrites most)))
+  pub few_given_unnamed : (states : ℕ) → most * 12 ≤ states → IfOk given (λ found. IfSome found (HoldsOfEachName config query (GoesStraightIn config deps rewrites most)))
       → IfOk given (λ found. IfSome found (λ ends. ends.unnamed_below ≡ true → (tail : Labels) → IsUnnamedTail config query tail
       → HasMoreThan (IsReached config rewrites (query ++ tail)) states → ⊥))
   few_given_unnamed states fits =
@@ -83,30 +83,30 @@ module _ (config : Config) (deps : Deps) (rewrites most : ℕ) (query : Labels) 
       (in_all config deps rewrites most (query ++ tail) (nothing_below ends) (straight (query ++ tail) (nothing_below ends) (inr (inr (below, (tail, is, refl), refl))))) states fits)
 
   -- a query with known ends shows the faults that they tell
-  pub shown_given : IfOk given (λ found. IfSome found (HoldsOfEachTold config query (GoesStraightIn config deps rewrites most)))
-      → IfOk given (λ found. IfSome found (λ ends. ShowsThese (with_lists (following config rewrites deps.least) deps.least deps.greatest) query (told_of query ends)))
+  pub shown_given : IfOk given (λ found. IfSome found (HoldsOfEachName config query (GoesStraightIn config deps rewrites most)))
+      → IfOk given (λ found. IfSome found (λ ends. ShowsThese (with_lists (following config rewrites deps.least) deps.least deps.greatest) query (faults_by_ends query ends)))
   shown_given =
-      by_straight (λ ends. ShowsThese (with_lists (following config rewrites deps.least) deps.least deps.greatest) query (told_of query ends))
+      by_straight (λ ends. ShowsThese (with_lists (following config rewrites deps.least) deps.least deps.greatest) query (faults_by_ends query ends))
       (λ ends straight. shows_these (following config rewrites deps.least) deps most query ends (in_least config deps rewrites most query ends (straight query ends (inl (refl, refl)))))
 
   -- names below the query whose ends are the query's show them too
-  pub shown_given_below : IfOk given (λ found. IfSome found (HoldsOfEachTold config query (GoesStraightIn config deps rewrites most)))
+  pub shown_given_below : IfOk given (λ found. IfSome found (HoldsOfEachName config query (GoesStraightIn config deps rewrites most)))
       → IfOk given (λ found. IfSome found (λ ends. ends.below ≡ true → (name : Labels) → NoOriginBetween config query name
-      → ShowsThese (with_lists (following config rewrites deps.least) deps.least deps.greatest) name (told_of query ends)))
+      → ShowsThese (with_lists (following config rewrites deps.least) deps.least deps.greatest) name (faults_by_ends query ends)))
   shown_given_below =
-      by_straight (λ ends. ends.below ≡ true → (name : Labels) → NoOriginBetween config query name → ShowsThese (with_lists (following config rewrites deps.least) deps.least deps.greatest) name (told_of query ends))
+      by_straight (λ ends. ends.below ≡ true → (name : Labels) → NoOriginBetween config query name → ShowsThese (with_lists (following config rewrites deps.least) deps.least deps.greatest) name (faults_by_ends query ends))
       (λ ends straight below name between.
       subst (ShowsThese (with_lists (following config rewrites deps.least) deps.least deps.greatest) name)
       (same_faults_below query name between.above ends.faulty.items (are_above ends (straight query ends (inl (refl, refl)))))
       (shows_these (following config rewrites deps.least) deps most name ends (in_least config deps rewrites most name ends (straight name ends (inr (inl (below, between, refl)))))))
 
   -- so does the query with an unnamed tail, if its ends are known then
-  pub shown_given_unnamed : IfOk given (λ found. IfSome found (HoldsOfEachTold config query (GoesStraightIn config deps rewrites most)))
+  pub shown_given_unnamed : IfOk given (λ found. IfSome found (HoldsOfEachName config query (GoesStraightIn config deps rewrites most)))
       → IfOk given (λ found. IfSome found (λ ends. ends.unnamed_below ≡ true → (tail : Labels) → IsUnnamedTail config query tail
-      → ShowsThese (with_lists (following config rewrites deps.least) deps.least deps.greatest) (query ++ tail) (told_of query ends)))
+      → ShowsThese (with_lists (following config rewrites deps.least) deps.least deps.greatest) (query ++ tail) (faults_by_ends query ends)))
   shown_given_unnamed =
       by_straight (λ ends. ends.unnamed_below ≡ true → (tail : Labels) → IsUnnamedTail config query tail
-      → ShowsThese (with_lists (following config rewrites deps.least) deps.least deps.greatest) (query ++ tail) (told_of query ends))
+      → ShowsThese (with_lists (following config rewrites deps.least) deps.least deps.greatest) (query ++ tail) (faults_by_ends query ends))
       (λ ends straight below tail is.
       subst (ShowsThese (with_lists (following config rewrites deps.least) deps.least deps.greatest) (query ++ tail))
       (same_faults query tail ends.faulty.items (are_above ends (straight query ends (inl (refl, refl)))))
@@ -114,14 +114,14 @@ module _ (config : Config) (deps : Deps) (rewrites most : ℕ) (query : Labels) 
       (in_least config deps rewrites most (query ++ tail) (nothing_below ends) (straight (query ++ tail) (nothing_below ends) (inr (inr (below, (tail, is, refl), refl)))))))
 
   -- a query with known ends is bounded
-  pub bounded_given : IfOk given (λ found. IfSome found (HoldsOfEachTold config query (GoesStraightIn config deps rewrites most)))
+  pub bounded_given : IfOk given (λ found. IfSome found (HoldsOfEachName config query (GoesStraightIn config deps rewrites most)))
       → IfOk given (λ found. IfSome found (λ ends. (rtype : RrType) → IsBoundedWith (following config rewrites deps.least) query rtype))
   bounded_given =
       by_straight (λ ends. (rtype : RrType) → IsBoundedWith (following config rewrites deps.least) query rtype)
       (λ ends straight. is_bounded (following config rewrites deps.least) deps most query ends (in_least config deps rewrites most query ends (straight query ends (inl (refl, refl)))))
 
   -- a query with known ends has the outcomes of the ends and no others
-  pub outcomes_given : IfOk given (λ found. IfSome found (HoldsOfEachTold config query (GoesStraightIn config deps rewrites most)))
+  pub outcomes_given : IfOk given (λ found. IfSome found (HoldsOfEachName config query (GoesStraightIn config deps rewrites most)))
       → IfOk given (λ found. IfSome found (λ ends. (rtype : RrType) (outcome : Option Leaf)
       → HasOutcome (following config rewrites deps.least) query rtype outcome ↔ IsOutcomeOf ends rtype outcome))
   outcomes_given =

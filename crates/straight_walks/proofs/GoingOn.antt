@@ -23,7 +23,7 @@ use Rattle.net_model.specs.declared.walk.State.{State}
 use Rattle.walk_laws.specs.Outcome.{outcome_of}
 use Rattle.zone_lookup.specs.CutTable.{cut_to}
 use Rattle.zone_lookup.specs.ReferralFaults.{if_shown, referral_faults}
-use Rattle.straight_walks.specs.Faulty.{BranchShows, IsTold, branch_hop, faults_at, faulty_cut, flag_faults, shows_some}
+use Rattle.straight_walks.specs.Faulty.{BranchShows, HasReferralFaults, branch_hop, faults_at, faulty_cut, flag_faults, shows_some}
 use Rattle.straight_walks.specs.declared.faulty.ReferralFlags.{ReferralFlags}
 use Rattle.straight_walks.specs.declared.faulty.Faulty.{Faulty}
 use Rattle.straight_walks.specs.Searching.{AreFlagsOf, AreReferrals, IsFaultyPut, KeepsAbove, KeepsFaulty, Known, Extends, IsReferral, IsSettingOf, no_flags, outer_leaf, state_at, queued_state, to_servers}
@@ -209,7 +209,7 @@ module _ (config : Config) (deps : Deps) (query server : Labels) (zone : Zone) (
       → IsReferral config deps query (to_cut ns) (referral.Ends flags) → (setting : Setting) (above : ℕ) → IsSettingOf config deps setting
       → EndsUnanswered setting.config deps told (branch_to ns setting above)
   ends_told told ns flags has (are, ends) setting above of = by flags.lame refl (ends setting above of) where
-    is_told : IsTold setting.config deps told (to_cut ns)
+    is_told : HasReferralFaults setting.config deps told (to_cut ns)
     is_told fault among = has fault (are.each fault (subst (λ (c : Config). Contains (referral_faults c deps (to_cut ns)) fault) of.config_is among))
 
     by : (lame : Bool) → flags.lame ≡ lame → branch_to ns setting above ≡ End (Some (Refer (to_cut ns))) (outer_leaf lame ns)

@@ -13,7 +13,7 @@ pub mod SameOutcomes
 pub mod StatesBehind
 pub mod ShownFaults
 pub mod ShowsThese
-pub mod ToldFlags
+pub mod FlagsByTable
 pub mod BranchShown
 pub mod SameFaulty
 pub mod StraightSearch

@@ -31,8 +31,8 @@ use Rattle.zone_lookup.proofs.ReferralParts.{has_cyclic, has_differs, has_no_glu
 use Rattle.zone_lookup.proofs.ZonesTell.{told_addresses, told_cyclic, told_differ, told_glue}
 use Rattle.straight_walks.specs.Answers.{leaf_of}
 use Rattle.straight_walks.specs.Ends.{IsOutcomeOf}
-use Rattle.straight_walks.specs.Faulty.{IsTold, ShowsThese}
-use Rattle.straight_walks.specs.Straight.{GoesStraight, told_of}
+use Rattle.straight_walks.specs.Faulty.{HasReferralFaults, ShowsThese}
+use Rattle.straight_walks.specs.Straight.{GoesStraight, faults_by_ends}
 use Rattle.straight_walks.specs.declared.ends.StraightEnds.{StraightEnds}
 use Rattle.straight_walks.proofs.StraightWalks.{EndsSo, GoesStraightBy, IsToldHop, end_told, goes_by}
 
@@ -70,20 +70,20 @@ module _ (setting : Setting) (deps : Deps) (most : ℕ) (query : Labels) (ends :
   OfQuery walk = IsWalk setting query rtype walk
 
   -- so it goes
-  so : (walk : Walk) → OfQuery walk → GoesStraightBy setting.config deps (told_of query ends) ends rtype straight.states walk
+  so : (walk : Walk) → OfQuery walk → GoesStraightBy setting.config deps (faults_by_ends query ends) ends rtype straight.states walk
   so walk is = goes_by setting deps most query ends rtype straight walk is
 
   -- the faults of its referrals are told
-  referral : (walk : Walk) (cut : Cut) → OfQuery walk → Refers walk cut → IsTold setting.config deps (told_of query ends) cut
-  referral walk cut is refers = each_along (IsToldHop setting.config deps (told_of query ends)) walk.hops (so walk is).hops (Refer cut) refers
+  referral : (walk : Walk) (cut : Cut) → OfQuery walk → Refers walk cut → HasReferralFaults setting.config deps (faults_by_ends query ends) cut
+  referral walk cut is refers = each_along (IsToldHop setting.config deps (faults_by_ends query ends)) walk.hops (so walk is).hops (Refer cut) refers
 
   -- and that it ends at a server that doesn't serve the delegated zone
-  lame : (walk : Walk) (cut : Cut) → OfQuery walk → ShowsLame walk cut → Contains (told_of query ends) (faults.Lame cut)
+  lame : (walk : Walk) (cut : Cut) → OfQuery walk → ShowsLame walk cut → Contains (faults_by_ends query ends) (faults.Lame cut)
   lame walk cut is shows =
       let (last, (front, behind), among) = (so walk is).lame cut.ns shows.ends in
       let same : Refer last ≡ Refer cut = one_last front shows.behind.0 (Refer last) (Refer cut) (sym behind ∙ shows.behind.1) in
       let cut_is : last ≡ cut = cc in
-      subst (λ (c : Cut). Contains (told_of query ends) (faults.Lame c)) cut_is among
+      subst (λ (c : Cut). Contains (faults_by_ends query ends) (faults.Lame c)) cut_is among
 
   -- it ends so
   ends_so : (walk : Walk) (leaf : Leaf) → OfQuery walk → walk.leaf ≡ leaf → EndsSo ends rtype leaf
@@ -97,7 +97,7 @@ module _ (setting : Setting) (deps : Deps) (most : ℕ) (query : Labels) (ends :
       show.differ (one_leaf (option_map (λ answering. leaf_of answering rtype) ends.answer) one.leaf other.leaf first second)
 
   -- walks show no fault but those that are told
-  walks_told : (walks : List Walk) (fault : Fault) → AllByRecursion OfQuery walks → WalksTake walks fault → ZonesShow lists fault → Contains (told_of query ends) fault
+  walks_told : (walks : List Walk) (fault : Fault) → AllByRecursion OfQuery walks → WalksTake walks fault → ZonesShow lists fault → Contains (faults_by_ends query ends) fault
   walks_told (walk ∷ []) (faults.Lame cut) are take hold = lame walk cut are.0 take
   walks_told (walk ∷ []) (faults.Differs cut) are take hold =
       referral walk cut are.0 take (faults.Differs cut) (has_differs setting.config deps cut (told_differ setting.config cut hold))
@@ -116,7 +116,7 @@ module _ (setting : Setting) (deps : Deps) (most : ℕ) (query : Labels) (ends :
 
 -- the query shows the faults that the ends tell, and no others
 pub shows_these : (setting : Setting) (deps : Deps) (most : ℕ) (query : Labels) (ends : StraightEnds) → ((rtype : RrType) → GoesStraight setting deps most query ends rtype)
-    → ShowsThese (with_lists setting deps.least deps.greatest) query (told_of query ends)
+    → ShowsThese (with_lists setting deps.least deps.greatest) query (faults_by_ends query ends)
 shows_these setting deps most query ends straight =
     record {
       there = λ rtype fault has. (straight rtype).shown fault has;

@@ -25,9 +25,9 @@ use Rattle.zone_tree.specs.Tree.{ZoneTree, name_of}
 use Rattle.straight_walks.specs.Answers.{AnswerOwners, leaf_of}
 use Rattle.straight_walks.specs.Ends.{IsOutcomeOf}
 use Rattle.zone_lookup.specs.Reply.{IsReply}
-use Rattle.straight_walks.specs.Searching.{AnswersSo, AreReferrals, BeginsAtTops, EndsWith, GoesStraightIn, HasPassed, HasWalked, IsBegun, IsComeTo, AnswerIsPut, IsSettingFor, IsSettingOf, KeepsOutcomes, LeadsOn, PassesServer, PassesState, state_at, queued_state, to_servers, unanswered, HoldsOfEachTold}
+use Rattle.straight_walks.specs.Searching.{AnswersSo, AreReferrals, BeginsAtTops, EndsWith, GoesStraightIn, HasPassed, HasWalked, IsBegun, IsComeTo, AnswerIsPut, IsSettingFor, IsSettingOf, KeepsOutcomes, LeadsOn, PassesServer, PassesState, state_at, queued_state, to_servers, unanswered, HoldsOfEachName}
 use Rattle.straight_walks.specs.Faulty.{AreAbove, BranchShows, faults_at}
-use Rattle.straight_walks.specs.Straight.{BranchStraight, FailsOrGoes, StepsStraight, told_of}
+use Rattle.straight_walks.specs.Straight.{BranchStraight, FailsOrGoes, StepsStraight, faults_by_ends}
 use Rattle.straight_walks.specs.declared.faulty.Faulty.{Faulty}
 use Rattle.straight_walks.proofs.BranchShown.{by_branch}
 use Rattle.straight_walks.specs.declared.ends.StraightEnds.{StraightEnds}
@@ -52,19 +52,19 @@ module _ (config : Config) (deps : Deps) (query : Labels) where
 
   module _ (setting : Setting) (before after : List Queued) (more : AreAmong before after) (ends_before ends : StraightEnds) (still : KeepsOutcomes ends_before ends) (rtype : RrType) where
     -- a branch that ends or goes on to queued states does so where those and others are, and more outcomes are told
-    branch_still : (branch : Branch) → FailsOrGoes setting.config deps (told_of query ends_before) ends_before.fails (map (queued_state config query) before) branch
-        → FailsOrGoes setting.config deps (told_of query ends) ends.fails (map (queued_state config query) after) branch
+    branch_still : (branch : Branch) → FailsOrGoes setting.config deps (faults_by_ends query ends_before) ends_before.fails (map (queued_state config query) before) branch
+        → FailsOrGoes setting.config deps (faults_by_ends query ends) ends.fails (map (queued_state config query) after) branch
     branch_still =
-        fails_or_goes_still setting.config deps (told_of query ends_before) (told_of query ends)
+        fails_or_goes_still setting.config deps (faults_by_ends query ends_before) (faults_by_ends query ends)
         (faults_kept query ends_before.faulty.items ends.faulty.items still.faulty) ends_before.fails ends.fails (still.outcomes rtype None)
         (map (queued_state config query) before) (map (queued_state config query) after) more
 
     -- walks still go straight from a state then
-    steps_still : (state : State) → PassesState setting deps (told_of query ends_before) ends_before rtype (map (queued_state config query) before) state
-        → PassesState setting deps (told_of query ends) ends rtype (map (queued_state config query) after) state
+    steps_still : (state : State) → PassesState setting deps (faults_by_ends query ends_before) ends_before rtype (map (queued_state config query) before) state
+        → PassesState setting deps (faults_by_ends query ends) ends rtype (map (queued_state config query) after) state
     steps_still state (inl branches) =
-        inl (all_so (FailsOrGoes setting.config deps (told_of query ends_before) ends_before.fails (map (queued_state config query) before))
-        (FailsOrGoes setting.config deps (told_of query ends) ends.fails (map (queued_state config query) after)) (next setting rtype state) branch_still branches)
+        inl (all_so (FailsOrGoes setting.config deps (faults_by_ends query ends_before) ends_before.fails (map (queued_state config query) before))
+        (FailsOrGoes setting.config deps (faults_by_ends query ends) ends.fails (map (queued_state config query) after)) (next setting rtype state) branch_still branches)
     steps_still state (inr (behind, leaf, few, is, told, along)) = inr (behind, leaf, omega (arith, few, still.rewrites), is, still.outcomes rtype (Some leaf) told, along)
 
   -- ---- one server
@@ -78,7 +78,7 @@ module _ (config : Config) (deps : Deps) (query : Labels) where
           still = record { rewrites = omega arith; faulty = ([], sym (append-nil ends.faulty.items)); outcomes = still };
           above = λ above. above;
           steps = λ setting rtype above of.
-              inl (subst (AllByRecursion (FailsOrGoes setting.config deps (told_of query ends) true (map (queued_state config query) queue))) (sym (ends_so setting rtype above of.is_of)) (inl (refl, inl refl), tt));
+              inl (subst (AllByRecursion (FailsOrGoes setting.config deps (faults_by_ends query ends) true (map (queued_state config query) queue))) (sym (ends_so setting rtype above of.is_of)) (inl (refl, inl refl), tt));
           leads = λ one has. inl has;
           told = told;
           shown = λ fault has. inl has;
@@ -153,9 +153,9 @@ module _ (config : Config) (deps : Deps) (query : Labels) where
         still rtype None is = on.still is
         still rtype (Some leaf) is = is
 
-        shown : (fault : Fault) → Contains (told_of query ends) fault ⊎ ((setting : Setting) (above : ℕ) → IsSettingOf config deps setting
+        shown : (fault : Fault) → Contains (faults_by_ends query ends) fault ⊎ ((setting : Setting) (above : ℕ) → IsSettingOf config deps setting
             → (branch : Branch) × Contains (branches setting above) branch × BranchShows setting.config deps branch fault)
-            → Contains (told_of query ends) fault ⊎ ((setting : Setting) (rtype : RrType) (above : ℕ) → IsSettingOf config deps setting
+            → Contains (faults_by_ends query ends) fault ⊎ ((setting : Setting) (rtype : RrType) (above : ℕ) → IsSettingOf config deps setting
             → (branch : Branch) × Contains (next setting rtype (state_at config query server above)) branch × BranchShows setting.config deps branch fault)
         shown fault (inl before) = inl before
         shown fault (inr by) = inr (λ setting rtype above of.
@@ -233,9 +233,9 @@ module _ (config : Config) (deps : Deps) (query : Labels) where
         begins = λ top has. begun_still queue after ends_before.fails ends.fails more (one.still.outcomes types.A None) top (so.begins top has);
         comes = λ setting rtype of other has. comes setting rtype of other (one.leads other has);
         steps = λ setting rtype of.
-            subst (AllByRecursion (PassesState setting deps (told_of query ends) ends rtype (map (queued_state config query) after))) (sym (map-append (queued_state config query) passed (item ∷ [])))
-            (all_push (PassesState setting deps (told_of query ends) ends rtype (map (queued_state config query) after)) (map (queued_state config query) passed) (queued_state config query item)
-            (all_so (PassesState setting deps (told_of query ends_before) ends_before rtype (map (queued_state config query) queue)) (PassesState setting deps (told_of query ends) ends rtype (map (queued_state config query) after))
+            subst (AllByRecursion (PassesState setting deps (faults_by_ends query ends) ends rtype (map (queued_state config query) after))) (sym (map-append (queued_state config query) passed (item ∷ [])))
+            (all_push (PassesState setting deps (faults_by_ends query ends) ends rtype (map (queued_state config query) after)) (map (queued_state config query) passed) (queued_state config query item)
+            (all_so (PassesState setting deps (faults_by_ends query ends_before) ends_before rtype (map (queued_state config query) queue)) (PassesState setting deps (faults_by_ends query ends) ends rtype (map (queued_state config query) after))
             (map (queued_state config query) passed) (steps_still setting queue after more ends_before ends one.still rtype)
             (so.steps setting rtype (setting_before ends_before ends one.still setting of)))
             (one.steps setting rtype item.cut of));
@@ -256,7 +256,7 @@ module _ (config : Config) (deps : Deps) (query : Labels) where
           comes_on setting query rtype (queued_state config query item) (so.comes setting rtype of item among) (queued_state config query other) (leads setting rtype item.cut of)
 
       shown : (setting : Setting) (rtype : RrType) (fault : Fault) → IsSettingOf config deps setting
-          → Contains (told_of query ends_before) fault ⊎ ((setting : Setting) (rtype : RrType) (above : ℕ) → IsSettingOf config deps setting
+          → Contains (faults_by_ends query ends_before) fault ⊎ ((setting : Setting) (rtype : RrType) (above : ℕ) → IsSettingOf config deps setting
           → (branch : Branch) × Contains (next setting rtype (state_at config query item.server.now above)) branch × BranchShows setting.config deps branch fault)
           → Shows (with_lists setting deps.least deps.greatest) query rtype fault
       shown setting rtype fault of (inl before) = so.shown setting rtype fault of before
@@ -280,7 +280,7 @@ module _ (config : Config) (deps : Deps) (query : Labels) where
         begins = λ top has. begun_still queue other ends.fails ends.fails more (λ is. is) top (so.begins top has);
         comes = λ setting rtype of one has. so.comes setting rtype of one (back one has);
         steps = λ setting rtype of.
-            all_so (PassesState setting deps (told_of query ends) ends rtype (map (queued_state config query) queue)) (PassesState setting deps (told_of query ends) ends rtype (map (queued_state config query) other))
+            all_so (PassesState setting deps (faults_by_ends query ends) ends rtype (map (queued_state config query) queue)) (PassesState setting deps (faults_by_ends query ends) ends rtype (map (queued_state config query) other))
             (map (queued_state config query) passed) (steps_still setting queue other more ends ends (record { rewrites = omega arith; faulty = ([], sym (append-nil ends.faulty.items)); outcomes = λ rtype outcome is. is }) rtype)
             (so.steps setting rtype of);
         told = so.told;
@@ -296,8 +296,8 @@ module _ (config : Config) (deps : Deps) (query : Labels) where
         begins = so.begins;
         comes = so.comes;
         steps = λ setting rtype of.
-            all_so (PassesState setting deps (told_of query ends) ends rtype (map (queued_state config query) queue))
-            (PassesState setting deps (told_of query after) after rtype (map (queued_state config query) queue)) (map (queued_state config query) passed)
+            all_so (PassesState setting deps (faults_by_ends query ends) ends rtype (map (queued_state config query) queue))
+            (PassesState setting deps (faults_by_ends query after) after rtype (map (queued_state config query) queue)) (map (queued_state config query) passed)
             (steps_still setting queue queue (λ state has. has) ends after still rtype) (so.steps setting rtype (setting_before ends after still setting of));
         told = λ setting rtype outcome of is. so.told setting rtype outcome (setting_before ends after still setting of) (back rtype outcome is);
         shown = λ setting rtype fault of has. so.shown setting rtype fault of (subst (λ (all : List Faulty). Contains (faults_at query all) fault) same has);
@@ -354,43 +354,43 @@ module _ (config : Config) (deps : Deps) (query : Labels) where
     abbrev queued : List State
     queued = map (queued_state config query) queue
 
-    passes : AllByRecursion (PassesState setting deps (told_of query ends) ends rtype queued) queued
+    passes : AllByRecursion (PassesState setting deps (faults_by_ends query ends) ends rtype queued) queued
     passes =
-        subst (λ (passed : List Queued). AllByRecursion (PassesState setting deps (told_of query ends) ends rtype queued) (map (queued_state config query) passed))
+        subst (λ (passed : List Queued). AllByRecursion (PassesState setting deps (faults_by_ends query ends) ends rtype queued) (map (queued_state config query) passed))
         (take_all at queue all) (so.walked.steps setting rtype (record { is_of = of; rewrites = enough }))
 
     -- the queued states with those behind them, and the states at all top servers
     abbrev walked : List State
-    walked = with_behind setting deps (told_of query ends) ends rtype queued queued passes
+    walked = with_behind setting deps (faults_by_ends query ends) ends rtype queued queued passes
 
     abbrev reached : List State
     reached = walked ++ start config query
 
-    walk_on : (state : State) → Contains walked state → StepsStraight setting deps (told_of query ends) ends rtype reached state
+    walk_on : (state : State) → Contains walked state → StepsStraight setting deps (faults_by_ends query ends) ends rtype reached state
     walk_on state has =
-        each_along (StepsStraight setting deps (told_of query ends) ends rtype reached) walked
-        (all_step setting deps (told_of query ends) ends rtype queued reached
-        (λ one among. Contains-append_left walked (start config query) one (still_there setting deps (told_of query ends) ends rtype queued queued passes one among))
+        each_along (StepsStraight setting deps (faults_by_ends query ends) ends rtype reached) walked
+        (all_step setting deps (faults_by_ends query ends) ends rtype queued reached
+        (λ one among. Contains-append_left walked (start config query) one (still_there setting deps (faults_by_ends query ends) ends rtype queued queued passes one among))
         queued passes (λ one among. Contains-append_left walked (start config query) one among))
         state has
 
-    walk_from : (top : Labels) → IsBegun config query queue ends.fails top → StepsStraight setting deps (told_of query ends) ends rtype reached (state_at config query top 0)
-    walk_from top (inl has) = walk_on (state_at config query top 0) (still_there setting deps (told_of query ends) ends rtype queued queued passes (state_at config query top 0) has)
+    walk_from : (top : Labels) → IsBegun config query queue ends.fails top → StepsStraight setting deps (faults_by_ends query ends) ends rtype reached (state_at config query top 0)
+    walk_from top (inl has) = walk_on (state_at config query top 0) (still_there setting deps (faults_by_ends query ends) ends rtype queued queued passes (state_at config query top 0) has)
     walk_from top (inr (fails, none)) =
-        subst (AllByRecursion (BranchStraight setting deps (told_of query ends) ends rtype reached (state_at config query top 0)))
+        subst (AllByRecursion (BranchStraight setting deps (faults_by_ends query ends) ends rtype reached (state_at config query top 0)))
         (sym (outside_ends config query top none setting rtype 0 of.config_is)) (inl (inl (fails, inl refl)), tt)
 
-    each_walks : (state : State) → Contains reached state → StepsStraight setting deps (told_of query ends) ends rtype reached state
+    each_walks : (state : State) → Contains reached state → StepsStraight setting deps (faults_by_ends query ends) ends rtype reached state
     each_walks state has = by (Contains-append_cases walked (start config query) state has) where
-      by : Contains walked state ⊎ Contains (start config query) state → StepsStraight setting deps (told_of query ends) ends rtype reached state
+      by : Contains walked state ⊎ Contains (start config query) state → StepsStraight setting deps (faults_by_ends query ends) ends rtype reached state
       by (inl among) = walk_on state among
       by (inr first) =
           let (top, has_top, is) = from_map (arrived config query true 0 None) config.tops state first in
-          subst (StepsStraight setting deps (told_of query ends) ends rtype reached) is (walk_from top (so.walked.begins top has_top))
+          subst (StepsStraight setting deps (faults_by_ends query ends) ends rtype reached) is (walk_from top (so.walked.begins top has_top))
 
     few_reached : (most : ℕ) → length queue * (ends.rewrites + 1) ≤ most → length reached ≤ most + length config.tops
     few_reached most few =
-        let in_all : length walked ≤ length queued * (ends.rewrites + 1) = few_in_all setting deps (told_of query ends) ends rtype queued (ends.rewrites + 1) (omega arith) queued passes in
+        let in_all : length walked ≤ length queued * (ends.rewrites + 1) = few_in_all setting deps (faults_by_ends query ends) ends rtype queued (ends.rewrites + 1) (omega arith) queued passes in
         let as_many : length queued * (ends.rewrites + 1) ≡ length queue * (ends.rewrites + 1) =
         ap (λ (n : ℕ). n * (ends.rewrites + 1)) (length-map queue (queued_state config query)) in
         omega (arith, few, length-append walked (start config query), length-map config.tops (arrived config query true 0 None))
@@ -415,8 +415,8 @@ module _ (config : Config) (deps : Deps) (query : Labels) where
   -- ends that are given only within the limits are ends to which the query goes straight
   pub given_within : (rewrites most all states : ℕ) (ends : StraightEnds) (given : Option StraightEnds) → IfSome given (λ found. found ≡ ends)
       → IfSome given (λ found. states * (ends.rewrites + 1) ≤ most) → IfSome given (λ found. ends.rewrites ≤ rewrites)
-      → (states * (ends.rewrites + 1) ≤ most → HoldsOfEachTold config query (GoesStraightIn config deps ends.rewrites all) ends) → IfSome given (HoldsOfEachTold config query (GoesStraightIn config deps rewrites all))
+      → (states * (ends.rewrites + 1) ≤ most → HoldsOfEachName config query (GoesStraightIn config deps ends.rewrites all) ends) → IfSome given (HoldsOfEachName config query (GoesStraightIn config deps rewrites all))
   given_within rewrites most all states ends None same few fewer straight = tt
   given_within rewrites most all states ends (Some found) same few fewer straight =
-      subst (HoldsOfEachTold config query (GoesStraightIn config deps rewrites all)) (sym same)
+      subst (HoldsOfEachName config query (GoesStraightIn config deps rewrites all)) (sym same)
       (λ name given_for told setting of enough rtype. straight few name given_for told setting of (omega (arith, fewer, enough)) rtype)

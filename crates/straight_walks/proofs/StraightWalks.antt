@@ -26,13 +26,13 @@ use Rattle.net_model.proofs.Leads.{GoesOn, EndsBy, branch_taken, first_state}
 use Rattle.net_model.proofs.WalkEnds.{item}
 use Rattle.walk_laws.specs.Outcome.{outcome_of}
 use Rattle.straight_walks.specs.Ends.{IsOutcomeOf}
-use Rattle.straight_walks.specs.Faulty.{IsTold}
-use Rattle.straight_walks.specs.Straight.{BranchStraight, GoesStraight, told_of}
+use Rattle.straight_walks.specs.Faulty.{HasReferralFaults}
+use Rattle.straight_walks.specs.Straight.{BranchStraight, GoesStraight, faults_by_ends}
 use Rattle.straight_walks.specs.declared.ends.StraightEnds.{StraightEnds}
 
 -- the hop is a referral whose faults are told, or a rewrite
 abbrev pub IsToldHop : Config → Deps → List Fault → Hop → Type 0
-IsToldHop config deps told (Refer cut) = IsTold config deps told cut
+IsToldHop config deps told (Refer cut) = HasReferralFaults config deps told cut
 IsToldHop config deps told (Rewrite place by_dname to) = Unit {0}
 
 -- no zone answers there and walks fail, or one answers what the ends have with the type
@@ -119,14 +119,14 @@ end_told ends rtype leaf so = absurd (true≢false (sym so.0))
 module _ (setting : Setting) (deps : Deps) (most : ℕ) (query : Labels) (ends : StraightEnds) (rtype : RrType) (straight : GoesStraight setting deps most query ends rtype) where
   -- a branch of one of the states
   abbrev BranchSo : State → Branch → Type 0
-  BranchSo state branch = GoesSo setting.config deps (told_of query ends) ends rtype straight.states state branch
+  BranchSo state branch = GoesSo setting.config deps (faults_by_ends query ends) ends rtype straight.states state branch
 
   -- a walk from one of the states
   abbrev So : Walk → Type 0
-  So walk = GoesStraightBy setting.config deps (told_of query ends) ends rtype straight.states walk
+  So walk = GoesStraightBy setting.config deps (faults_by_ends query ends) ends rtype straight.states walk
 
   -- where each branch of a state goes straight it goes so
-  branch_so : (state : State) (branch : Branch) → BranchStraight setting deps (told_of query ends) ends rtype straight.states state branch → BranchSo state branch
+  branch_so : (state : State) (branch : Branch) → BranchStraight setting deps (faults_by_ends query ends) ends rtype straight.states state branch → BranchSo state branch
   branch_so state branch (inl (inl (fails, inl outside))) =
       subst (BranchSo state) (sym outside) (tt, fails, (λ is. absurd (apart is)), λ ns is. absurd (not_lame ns is))
     where
@@ -166,7 +166,7 @@ module _ (setting : Setting) (deps : Deps) (most : ℕ) (query : Labels) (ends :
       taken : (branch : Branch) → slice_get (next setting rtype state) number ≡ Some branch → BranchSo state branch
       taken branch is =
           item (BranchSo state) (next setting rtype state) number branch
-          (all_so (BranchStraight setting deps (told_of query ends) ends rtype straight.states state) (BranchSo state) (next setting rtype state) (branch_so state) (straight.steps state has)) is
+          (all_so (BranchStraight setting deps (faults_by_ends query ends) ends rtype straight.states state) (BranchSo state) (next setting rtype state) (branch_so state) (straight.steps state has)) is
 
       by : GoesOn state (walk_from setting rtype numbers) (slice_get (next setting rtype state) number) walk
           ⊎ EndsBy state (slice_get (next setting rtype state) number) walk

@@ -15,7 +15,7 @@ use Rattle.zone_lookup.specs.Sound.{wants_glue}
 use Rattle.zone_lookup.proofs.SoundReferrals.{unhosted_sound}
 use Rattle.straight_walks.specs.Searching.{IsReferral, no_flags}
 use Rattle.straight_walks.specs.declared.name_server.Referral.TheVariants as referral
-use Rattle.straight_walks.proofs.ToldFlags.{ends_unhosted, sound_shows_none}
+use Rattle.straight_walks.proofs.FlagsByTable.{ends_unhosted, sound_shows_none}
 
 -- servers that hold the same zone refer to a name server of its zone cut with glue alike
 pub same_glue : (config : Config) (server other : Labels) (zone : Zone) (cut ns : Labels) → held_zone config server zone.origin ≡ Some zone → held_zone config other zone.origin ≡ Some zone

@@ -24,11 +24,11 @@ use Rattle.zone_lookup.specs.Sound.{IsSound}
 use Rattle.walk_laws.specs.Outcome.{HasOutcome}
 use Rattle.straight_walks.specs.Answers.{ZoneOwner, leaf_of, owner_leaf}
 use Rattle.straight_walks.specs.Ends.{IsOutcomeOf}
-use Rattle.straight_walks.specs.Faulty.{AreAbove, IsTold, faults_at}
-use Rattle.straight_walks.specs.Straight.{GoesStraight, StepsStraight, told_of}
+use Rattle.straight_walks.specs.Faulty.{AreAbove, HasReferralFaults, faults_at}
+use Rattle.straight_walks.specs.Straight.{GoesStraight, StepsStraight, faults_by_ends}
 use Rattle.straight_walks.specs.declared.ends.StraightEnds.{StraightEnds}
 use Rattle.straight_walks.specs.declared.faulty.Faulty.{Faulty}
-use Rattle.straight_walks.proofs.ToldFlags.{sound_shows_none}
+use Rattle.straight_walks.proofs.FlagsByTable.{sound_shows_none}
 
 abbrev t : Labels
 t = codes "t" ∷ []
@@ -120,10 +120,10 @@ module _ (rtype : RrType) (faulty : Vec Faulty Global) (none : faulty.items ≡ 
   ends = ends_with faulty
 
   -- the referrals show no fault
-  is_told : (to : Cut) → IsSound setting.config deps to → IsTold setting.config deps (told_of www ends) to
+  is_told : (to : Cut) → IsSound setting.config deps to → HasReferralFaults setting.config deps (faults_by_ends www ends) to
   is_told to sound fault has = absurd (sound_shows_none setting.config deps to sound fault has)
 
-  none_told : (fault : Fault) → Contains (told_of www ends) fault → ⊥
+  none_told : (fault : Fault) → Contains (faults_by_ends www ends) fault → ⊥
   none_told fault has = none_in_nil fault (subst (λ (all : List Faulty). Contains (faults_at www all) fault) none has)
 
   -- with each type they answer so
@@ -136,17 +136,17 @@ module _ (rtype : RrType) (faulty : Vec Faulty Global) (none : faulty.items ≡ 
   told : IsOutcomeOf ends rtype (Some NxDomain)
   told = ap (λ (leaf : Leaf). Some leaf) leaf_is
 
-  first_goes : StepsStraight setting deps (told_of www ends) ends rtype states first
+  first_goes : StepsStraight setting deps (faults_by_ends www ends) ends rtype states first
   first_goes = (
     inl (inr (cut nsa, behind nsa, is_told (cut nsa) first_sound, refl, second)),
     (inl (inr (cut nsb, behind nsb, is_told (cut nsb) second_sound, refl, third)), tt),
   )
 
   -- where the name doesn't exist
-  second_answers : StepsStraight setting deps (told_of www ends) ends rtype states (behind nsa)
+  second_answers : StepsStraight setting deps (faults_by_ends www ends) ends rtype states (behind nsa)
   second_answers = (inr (inl (NxDomain, refl, told, λ is. refl, refl)), tt)
 
-  third_answers : StepsStraight setting deps (told_of www ends) ends rtype states (behind nsb)
+  third_answers : StepsStraight setting deps (faults_by_ends www ends) ends rtype states (behind nsb)
   third_answers = (inr (inl (NxDomain, refl, told, λ is. refl, refl)), tt)
 
   -- so ends the walk by the first name server
@@ -162,7 +162,7 @@ module _ (rtype : RrType) (faulty : Vec Faulty Global) (none : faulty.items ≡ 
         states = states;
         few = omega arith;
         begins = λ state has. each_along (Contains states) (first ∷ []) (has_first first (behind nsa ∷ behind nsb ∷ []), tt) state has;
-        steps = λ state has. each_along (StepsStraight setting deps (told_of www ends) ends rtype states) states (first_goes, (second_answers, (third_answers, tt))) state has;
+        steps = λ state has. each_along (StepsStraight setting deps (faults_by_ends www ends) ends rtype states) states (first_goes, (second_answers, (third_answers, tt))) state has;
         told = www_told;
         shown = λ fault has. absurd (none_told fault has);
         above = subst (AreAbove www) (sym none) tt;

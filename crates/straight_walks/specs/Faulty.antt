@@ -31,17 +31,19 @@ flag_faults flags cut =
     if_shown flags.lame (faults.Lame cut) ++ if_shown flags.differs (faults.Differs cut) ++ if_shown flags.no_glue (faults.NoGlue cut)
     ++ if_shown flags.glue_differs (faults.GlueDiffers cut)
 
--- what is told of a referral, and whether walks end there since the name server has no zone at or below the cut
+-- what the table of zone cuts has of a referral, and whether walks end there since the name server has no zone at or below
+-- the cut
 abbrev pub flags_by : CutFlags → Bool → ReferralFlags
-flags_by told lame = record { lame = lame; differs = told.differs; no_glue = told.no_glue; glue_differs = told.glue_differs }
+flags_by flags lame = record { lame = lame; differs = flags.differs; no_glue = flags.no_glue; glue_differs = flags.glue_differs }
 
--- what is told of the referral to the name server of this number; where nothing is told of the zone cut, nothing is of it
+-- the flags of the referral to the name server of this number, among those of its zone cut; where there are none, it shows
+-- nothing
 abbrev pub flags_at : Option (List CutFlags) → ℕ → CutFlags
-flags_at (Some told) number = get_or told number (glue_alone false)
+flags_at (Some flags) number = get_or flags number (glue_alone false)
 flags_at None number = glue_alone false
 
--- what is told of a referral is what the zones at both sides of its cut show
-pub record AreToldOf (config : Config) (cut : Cut) (flags : CutFlags) : Type 0 where
+-- the flags are what the zones at both sides of the cut show
+pub record AreFlagsBySides (config : Config) (cut : Cut) (flags : CutFlags) : Type 0 where
   pub differs : flags.differs ≡ zones_differ config cut
   pub no_glue : flags.no_glue ≡ wants_glue config cut
   pub glue_differs : flags.glue_differs ≡ addresses_differ config cut
@@ -59,8 +61,8 @@ abbrev pub AreAbove : Labels → List Faulty → Type 0
 AreAbove query faulty = AllByRecursion (λ one. one.cut ≤ length query) faulty
 
 -- each fault of the referral, whatever comes behind it, is among these
-abbrev pub IsTold : Config → Deps → List Fault → Cut → Type 0
-IsTold config deps told cut = (fault : Fault) → Contains (referral_faults config deps cut) fault → Contains told fault
+abbrev pub HasReferralFaults : Config → Deps → List Fault → Cut → Type 0
+HasReferralFaults config deps shown cut = (fault : Fault) → Contains (referral_faults config deps cut) fault → Contains shown fault
 
 -- the hop of a branch, if it has one
 abbrev pub branch_hop : Branch → Option Hop
@@ -75,6 +77,6 @@ BranchShows config deps branch fault =
     × (Contains (referral_faults config deps cut) fault ⊎ ((fault ≡ faults.Lame cut) × (branch ≡ End (Some (Refer cut)) (leaves.Lame cut.ns))))
 
 -- the query shows these faults, with each type, and no others
-pub record ShowsThese (setting : FaultSetting) (query : Labels) (told : List Fault) : Type 0 where
-  pub there : (rtype : RrType) (fault : Fault) → Contains told fault → Shows setting query rtype fault
-  pub only : (rtype : RrType) (fault : Fault) → Shows setting query rtype fault → Contains told fault
+pub record ShowsThese (setting : FaultSetting) (query : Labels) (these : List Fault) : Type 0 where
+  pub there : (rtype : RrType) (fault : Fault) → Contains these fault → Shows setting query rtype fault
+  pub only : (rtype : RrType) (fault : Fault) → Shows setting query rtype fault → Contains these fault

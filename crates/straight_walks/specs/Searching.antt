@@ -35,8 +35,8 @@ use Rattle.zone_lookup.specs.Reply.{IsReply}
 use Rattle.zone_lookup.specs.ReferralFaults.{referral_faults}
 use Rattle.straight_walks.specs.Answers.{AnswerOwners, ZoneOwner, leaf_of, owner_leaf, zone_owner}
 use Rattle.straight_walks.specs.Ends.{IsOutcomeOf}
-use Rattle.straight_walks.specs.Faulty.{AreAbove, BranchShows, IsTold, faults_at, flag_faults, shows_some}
-use Rattle.straight_walks.specs.Straight.{FailsOrGoes, FollowsLeast, GoesStraight, NoOriginBetween, told_of}
+use Rattle.straight_walks.specs.Faulty.{AreAbove, BranchShows, HasReferralFaults, faults_at, flag_faults, shows_some}
+use Rattle.straight_walks.specs.Straight.{FailsOrGoes, FollowsLeast, GoesStraight, NoOriginBetween, faults_by_ends}
 use Rattle.straight_walks.specs.declared.faulty.Faulty.{Faulty}
 use Rattle.straight_walks.specs.declared.faulty.ReferralFlags.{ReferralFlags}
 use Rattle.straight_walks.specs.declared.aliases.AliasEnd.{AliasEnd}
@@ -159,10 +159,10 @@ pub record AnswerIsPut (before : StraightEnds) (answering : AnswerOwners) (rewri
 
 -- ---- referrals
 
--- the referral's faults are those that are told of it, and that it is lame where walks end so
+-- the referral's faults are those of the flags, and that it is lame where walks end so
 pub record AreFlagsOf (config : Config) (deps : Deps) (cut : Cut) (lame : Bool) (flags : ReferralFlags) : Type 0 where
   pub lame_is : flags.lame ≡ lame
-  pub each : IsTold config deps (flag_faults flags cut) cut
+  pub each : HasReferralFaults config deps (flag_faults flags cut) cut
   pub only : (fault : Fault) → Contains (flag_faults flags cut) fault → Contains (referral_faults config deps cut) fault ⊎ ((fault ≡ faults.Lame cut) × (lame ≡ true))
 
 -- the leaf in which walks end at a name server: that it is lame, or isn't configured
@@ -192,8 +192,8 @@ pub record Known : Type 0 where
   pub faulty : List Faulty
 
 -- the referrals of a zone cut to these name servers, from the query's state at a server, end where no zone answers or go
--- on to queued states, and their faults are told; no other states come to the queue, walks fail only where one of them
--- ends, and no other faults are told
+-- on to queued states, and their faults are known; no other states come to the queue, walks fail only where one of them
+-- ends, and no other faults are known
 pub record AreReferrals (config : Config) (deps : Deps) (query server : Labels) (zone : Zone) (cut : Labels) (names : List Labels) (before after : Known) : Type 0 where
   pub extends : Extends before.queue after.queue
   pub still : before.fails ≡ true → after.fails ≡ true
@@ -218,7 +218,7 @@ IsFaultyPut server zone cut ns flags before after =
     ⊎ ((one : Faulty) × (one.flags ≡ flags) × (one.server.now ≡ server) × (one.zone.now ≡ zone.origin) × (one.cut ≡ length cut) × (one.ns.now ≡ ns)
     × (after ≡ before ++ one ∷ []))
 
--- no fault is told of a referral
+-- no fault of a referral
 abbrev pub no_flags : ReferralFlags
 no_flags = record { lame = false; differs = false; no_glue = false; glue_differs = false }
 
@@ -316,8 +316,8 @@ EndsAnswered setting ends rtype state =
 -- walks with the type go straight from the state: each branch ends where no zone answers, which is one of the ends, or
 -- goes on to one of the states; or they end in an answer
 abbrev pub PassesState : Setting → Deps → List Fault → StraightEnds → RrType → List State → State → Type 0
-PassesState setting deps told ends rtype states state =
-    AllByRecursion (FailsOrGoes setting.config deps told ends.fails states) (next setting rtype state) ⊎ EndsAnswered setting ends rtype state
+PassesState setting deps shown ends rtype states state =
+    AllByRecursion (FailsOrGoes setting.config deps shown ends.fails states) (next setting rtype state) ⊎ EndsAnswered setting ends rtype state
 
 -- the setting is one of the configuration in which a walk may be rewritten as often as the ends tell
 pub record IsSettingFor (config : Config) (deps : Deps) (ends : StraightEnds) (setting : Setting) : Type 0 where
@@ -331,13 +331,13 @@ pub record PassesServer (config : Config) (deps : Deps) (query server : Labels) 
   pub still : KeepsOutcomes ends_before ends
   pub above : AreAbove query ends_before.faulty.items → AreAbove query ends.faulty.items
   pub steps : (setting : Setting) (rtype : RrType) (above : ℕ) → IsSettingFor config deps ends setting
-      → PassesState setting deps (told_of query ends) ends rtype (map (queued_state config query) after) (state_at config query server above)
+      → PassesState setting deps (faults_by_ends query ends) ends rtype (map (queued_state config query) after) (state_at config query server above)
   pub leads : (one : Queued) → Contains after one → Contains before one
       ⊎ ((setting : Setting) (rtype : RrType) (above : ℕ) → IsSettingOf config deps setting
       → LeadsOn setting rtype (state_at config query server above) (queued_state config query one))
   pub told : (rtype : RrType) (outcome : Option Leaf) → IsOutcomeOf ends rtype outcome → IsOutcomeOf ends_before rtype outcome
       ⊎ ((setting : Setting) (above : ℕ) → IsSettingFor config deps ends setting → EndsWith setting rtype (state_at config query server above) outcome)
-  pub shown : (fault : Fault) → Contains (told_of query ends) fault → Contains (told_of query ends_before) fault
+  pub shown : (fault : Fault) → Contains (faults_by_ends query ends) fault → Contains (faults_by_ends query ends_before) fault
       ⊎ ((setting : Setting) (rtype : RrType) (above : ℕ) → IsSettingOf config deps setting
       → (branch : Branch) × Contains (next setting rtype (state_at config query server above)) branch × BranchShows setting.config deps branch fault)
 
@@ -363,10 +363,10 @@ pub record HasWalked (config : Config) (deps : Deps) (query : Labels) (queue pas
   pub comes : (setting : Setting) (rtype : RrType) → IsSettingOf config deps setting → (one : Queued) → Contains queue one
       → IsComeTo setting query rtype (queued_state config query one)
   pub steps : (setting : Setting) (rtype : RrType) → IsSettingFor config deps ends setting
-      → AllByRecursion (PassesState setting deps (told_of query ends) ends rtype (map (queued_state config query) queue)) (map (queued_state config query) passed)
+      → AllByRecursion (PassesState setting deps (faults_by_ends query ends) ends rtype (map (queued_state config query) queue)) (map (queued_state config query) passed)
   pub told : (setting : Setting) (rtype : RrType) (outcome : Option Leaf) → IsSettingFor config deps ends setting → IsOutcomeOf ends rtype outcome
       → HasOutcome setting query rtype outcome
-  pub shown : (setting : Setting) (rtype : RrType) (fault : Fault) → IsSettingOf config deps setting → Contains (told_of query ends) fault
+  pub shown : (setting : Setting) (rtype : RrType) (fault : Fault) → IsSettingOf config deps setting → Contains (faults_by_ends query ends) fault
       → Shows (with_lists setting deps.least deps.greatest) query rtype fault
   pub above : AreAbove query ends.faulty.items
 
@@ -379,13 +379,13 @@ pub record HasPassed (config : Config) (deps : Deps) (query : Labels) (queue : L
 abbrev pub IsSearch : Config → Deps → Labels → Search → Type 0
 IsSearch config deps query searched = HasPassed config deps query searched.queue.items searched.passed (unanswered searched.fails searched.faulty)
 
--- the statement holds of each name whose ends are told by these of the query, and of that name's ends
-abbrev pub HoldsOfEachTold : Config → Labels → (Labels → StraightEnds → Type 0) → StraightEnds → Type 0
-HoldsOfEachTold config query P ends = (name : Labels) (found : StraightEnds) → AreEndsFor config query ends name found → P name found
+-- the statement holds of each name whose ends the ends of the query tell, and of that name's ends
+abbrev pub HoldsOfEachName : Config → Labels → (Labels → StraightEnds → Type 0) → StraightEnds → Type 0
+HoldsOfEachName config query P ends = (name : Labels) (found : StraightEnds) → AreEndsFor config query ends name found → P name found
 
 -- for each name of which they tell the ends the first queued states, as many as said, are passed
 abbrev pub HavePassed : Config → Deps → Labels → List Queued → ℕ → StraightEnds → Type 0
-HavePassed config deps query queue passed ends = HoldsOfEachTold config query (λ name found. HasPassed config deps name queue passed found) ends
+HavePassed config deps query queue passed ends = HoldsOfEachName config query (λ name found. HasPassed config deps name queue passed found) ends
 
 -- in each setting of the configuration in which walks may use so many rewrites those of the query go straight to the
 -- ends, with each type, over at most so many states
@@ -399,7 +399,7 @@ GoesStraightIn config deps rewrites most query ends =
 abbrev pub IsNextReferral : Config → Labels → List Queued → ℕ → StraightEnds → StraightEnds → NextReferral → Type 0
 IsNextReferral config query queue before ends_before ends referring.Ends =
     (deps : Deps) → HavePassed config deps query queue before ends_before
-    → (most : ℕ) → length queue * (ends.rewrites + 1) ≤ most → HoldsOfEachTold config query (GoesStraightIn config deps ends.rewrites (most + length config.tops)) ends
+    → (most : ℕ) → length queue * (ends.rewrites + 1) ≤ most → HoldsOfEachName config query (GoesStraightIn config deps ends.rewrites (most + length config.tops)) ends
 IsNextReferral config query queue before ends_before ends (referring.Refers passed tree cut) =
     (before ≤ passed)
     × (passed < length queue)

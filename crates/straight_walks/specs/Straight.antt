@@ -19,7 +19,7 @@ use Rattle.net_model.specs.declared.walk.Leaf.TheVariants.{Lame, NxDomain, Outsi
 use Rattle.net_model.specs.declared.walk.State.{State}
 use Rattle.walk_laws.specs.Outcome.{HasOutcome}
 use Rattle.straight_walks.specs.Ends.{IsOutcomeOf}
-use Rattle.straight_walks.specs.Faulty.{AreAbove, IsTold, faults_at}
+use Rattle.straight_walks.specs.Faulty.{AreAbove, HasReferralFaults, faults_at}
 use Rattle.straight_walks.specs.declared.ends.StraightEnds.{StraightEnds}
 
 -- the name is at or below the other, and no server has a zone with a longer origin at or above the name
@@ -33,21 +33,21 @@ NoOriginBelow config upper =
     (server longer : Labels) → is_prefix upper longer ≡ true → length upper < length longer → held_zone config server longer ≡ None
 
 -- the branch ends where no zone answers: its server holds none for the name; or the name server isn't configured, or has
--- no zone at or below the zone cut, which is told. The faults of the referral are told.
+-- no zone at or below the zone cut, which is among the shown faults. So are the referral's own.
 abbrev pub EndsUnanswered : Config → Deps → List Fault → Branch → Type 0
-EndsUnanswered config deps told branch =
+EndsUnanswered config deps shown branch =
     (branch ≡ End None Outside)
-    ⊎ ((cut : Cut) × IsTold config deps told cut
-    × ((branch ≡ End (Some (Refer cut)) (Unhosted cut.ns)) ⊎ (Contains told (faults.Lame cut) × (branch ≡ End (Some (Refer cut)) (Lame cut.ns)))))
+    ⊎ ((cut : Cut) × HasReferralFaults config deps shown cut
+    × ((branch ≡ End (Some (Refer cut)) (Unhosted cut.ns)) ⊎ (Contains shown (faults.Lame cut) × (branch ≡ End (Some (Refer cut)) (Lame cut.ns)))))
 
 -- the branch ends where a zone answers what the ends have with the type; the name exists where a rewrite led to the state
 abbrev pub EndsInAnswer : StraightEnds → RrType → State → Branch → Type 0
 EndsInAnswer ends rtype state branch =
     (leaf : Leaf) × (is_authoritative leaf ≡ true) × IsOutcomeOf ends rtype (Some leaf) × (leaf ≡ NxDomain → state.last ≡ None) × (branch ≡ End None leaf)
 
--- the branch goes on by a referral to one of these states, and the referral's faults are told
+-- the branch goes on by a referral to one of these states, and the referral's faults are among the shown ones
 abbrev pub GoesTo : Config → Deps → List Fault → List State → Branch → Type 0
-GoesTo config deps told states branch = (cut : Cut) × (to : State) × IsTold config deps told cut × (branch ≡ Go (Refer cut) to) × Contains states to
+GoesTo config deps shown states branch = (cut : Cut) × (to : State) × HasReferralFaults config deps shown cut × (branch ≡ Go (Refer cut) to) × Contains states to
 
 -- the branch goes on by a rewrite to one of these states
 abbrev pub GoesByRewrite : List State → Branch → Type 0
@@ -56,22 +56,22 @@ GoesByRewrite states branch =
 
 -- the branch ends where no zone answers, and walks fail; or it goes on by a referral to one of the states
 abbrev pub FailsOrGoes : Config → Deps → List Fault → Bool → List State → Branch → Type 0
-FailsOrGoes config deps told fails states branch = ((fails ≡ true) × EndsUnanswered config deps told branch) ⊎ GoesTo config deps told states branch
+FailsOrGoes config deps shown fails states branch = ((fails ≡ true) × EndsUnanswered config deps shown branch) ⊎ GoesTo config deps shown states branch
 
-module _ (setting : Setting) (deps : Deps) (told : List Fault) (ends : StraightEnds) (rtype : RrType) (states : List State) where
+module _ (setting : Setting) (deps : Deps) (shown : List Fault) (ends : StraightEnds) (rtype : RrType) (states : List State) where
   -- a branch of the state fails as the ends do or goes on by a referral to one of the states; or it ends with the type
   -- in the answer of the ends, or goes on by a rewrite to one of the states
   abbrev pub BranchStraight : State → Branch → Type 0
   BranchStraight state branch =
-      FailsOrGoes setting.config deps told ends.fails states branch ⊎ (EndsInAnswer ends rtype state branch ⊎ GoesByRewrite states branch)
+      FailsOrGoes setting.config deps shown ends.fails states branch ⊎ (EndsInAnswer ends rtype state branch ⊎ GoesByRewrite states branch)
 
   -- each branch of the state does so
   abbrev pub StepsStraight : State → Type 0
   StepsStraight state = AllByRecursion (BranchStraight state) (next setting rtype state)
 
 -- the faults that the ends tell of a query
-abbrev pub told_of : Labels → StraightEnds → List Fault
-told_of query ends = faults_at query ends.faulty.items
+abbrev pub faults_by_ends : Labels → StraightEnds → List Fault
+faults_by_ends query ends = faults_at query ends.faulty.items
 
 -- the walks of the query with the type go straight: they reach at most so many states, all zones that answer tell the
 -- same, and the query has the outcomes of these ends and shows their faults
@@ -79,9 +79,9 @@ pub record GoesStraight (setting : Setting) (deps : Deps) (most : ℕ) (query : 
   pub states : List State
   pub few : length states ≤ most
   pub begins : (state : State) → Contains (start setting.config query) state → Contains states state
-  pub steps : (state : State) → Contains states state → StepsStraight setting deps (told_of query ends) ends rtype states state
+  pub steps : (state : State) → Contains states state → StepsStraight setting deps (faults_by_ends query ends) ends rtype states state
   pub told : (outcome : Option Leaf) → IsOutcomeOf ends rtype outcome → HasOutcome setting query rtype outcome
-  pub shown : (fault : Fault) → Contains (told_of query ends) fault → Shows (with_lists setting deps.least deps.greatest) query rtype fault
+  pub shown : (fault : Fault) → Contains (faults_by_ends query ends) fault → Shows (with_lists setting deps.least deps.greatest) query rtype fault
   pub above : AreAbove query ends.faulty.items
 
 -- of the configured servers those of the least set are followed

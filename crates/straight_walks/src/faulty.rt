@@ -18,15 +18,16 @@ pub struct ReferralFlags {
 }
 
 impl ReferralFlags {
-    /// What is told of the referral, and whether walks end there since the name server has no zone at or below the cut.
-    pub(crate) fn of(told: CutFlags, lame: bool) -> ReferralFlags
-        ensures { result ≡ flags_by told lame }
+    /// What the table of zone cuts has of the referral, and whether walks end there since the name server has no zone at
+    /// or below the cut.
+    pub(crate) fn of(flags: CutFlags, lame: bool) -> ReferralFlags
+        ensures { result ≡ flags_by flags lame }
     {
         ReferralFlags {
             lame,
-            differs: told.differs,
-            no_glue: told.no_glue,
-            glue_differs: told.glue_differs,
+            differs: flags.differs,
+            no_glue: flags.no_glue,
+            glue_differs: flags.glue_differs,
         }
     }
 

@@ -3,8 +3,8 @@
 //!
 //! The layer above may rest on this: where `straight_ends` gives what the walks of a query end in, the query shows the
 //! faults that the ends tell and no others, reaches no more pairs of state and type than are allowed, and has the outcomes
-//! of these ends and no others. Where it is told that these are the ends of the names below too that have no origin of a
-//! zone between, these names show the same faults; so does the query with any unnamed tail, where it is told that its ends
+//! of these ends and no others. Where the ends say that they are those of the names below too that have no origin of a
+//! zone between, these names show the same faults; so does the query with any unnamed tail, where they say that its ends
 //! are known too. Where it gives nothing, nothing is said. Ends of two configurations can be compared, type by type.
 //!
 //! Costs: for each origin of a zone, once, what decides at it is looked for at each of at most 4,096 states; each zone cut
@@ -23,12 +23,12 @@
 //! name that it makes is made once, and the same is done for it and its aliases. Where several servers answer the query,
 //! their data are compared, type by type; nothing is looked for again, and so where ends are compared. Where one of these
 //! servers refers the query, the table is looked into, and each name server of the zone cut is looked for among the
-//! servers; if one is configured, or a fault is told, each is looked into as for an origin. All this takes no memory, but
+//! servers; if one is configured, or shows a fault, each is looked into as for an origin. All this takes no memory, but
 //! for a name that a DNAME record makes. Only where one of the zone cut's name servers is configured the states of the
 //! query's nearest origin are copied, once. The search goes on from there, over the states queued after that one and those
 //! at the servers to which it refers the query, and looks at no state twice. Where no origin is at or above the query, none
 //! of more than 32 top servers is looked at. No graph is made. Where each of these servers refers the query to servers
-//! elsewhere or holds no zone for it, its ends are told of the names below too, and where the others answer it by data of
+//! elsewhere or holds no zone for it, its ends are those of the names below too, and where the others answer it by data of
 //! its own and have no wildcard below it, of the query with an unnamed tail: those take no search of their own. Whether an
 //! origin stands below a name takes three comparisons.
 #![tactic(auto)]

@@ -3,7 +3,7 @@
 ghost use Rattle.std.specs.Prelude.{◌≡◌, true};
 ghost use Rattle.dns_data.specs.Name.{is_prefix};
 ghost use Rattle.zone_lookup.specs.LentCut.{cut_of};
-ghost use Rattle.straight_walks.specs.Faulty.{AreToldOf};
+ghost use Rattle.straight_walks.specs.Faulty.{AreFlagsBySides};
 ghost use Rattle.straight_walks.specs.Searching.{IsReferral};
 
 use crate::asked::Asked;
@@ -20,16 +20,16 @@ pub(crate) enum Referral {
     Unclear,
 }
 
-/// The referral of the query to a name server of a zone cut, of which it is told what it shows.
-pub(crate) fn referral_to(asked: Asked<'_, '_, '_>, to: LentCut<'_>, told: CutFlags) -> Referral
+/// The referral of the query to a name server of a zone cut, by the flags of what it shows.
+pub(crate) fn referral_to(asked: Asked<'_, '_, '_>, to: LentCut<'_>, flags: CutFlags) -> Referral
     requires inside { is_prefix to.zone.now to.cut.now ≡ true }
-    requires told { AreToldOf asked.hosts.now (cut_of to) told }
+    requires flags { AreFlagsBySides asked.hosts.now (cut_of to) flags }
     ensures { IsReferral asked.entry.hosts.now asked.entry.sets.now asked.entry.name.now (cut_of to.entry) result }
 {
     match Walker::following_least(asked.hosts, 0, asked.sets).leads(to, asked.name) {
-        Lead::Goes(_) => Referral::GoesOn(ReferralFlags::of(told, false)),
-        Lead::Unhosted => Referral::Ends(ReferralFlags::of(told, false)),
-        Lead::Lame => Referral::Ends(ReferralFlags::of(told, true)),
+        Lead::Goes(_) => Referral::GoesOn(ReferralFlags::of(flags, false)),
+        Lead::Unhosted => Referral::Ends(ReferralFlags::of(flags, false)),
+        Lead::Lame => Referral::Ends(ReferralFlags::of(flags, true)),
         Lead::NoAddress => Referral::Unclear,
     }
 }

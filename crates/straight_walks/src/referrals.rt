@@ -41,8 +41,8 @@ pub(crate) fn all_end_outside(asked: Asked<'_, '_, '_>, from: Referring<'_, '_>)
         tree,
         cut,
     } = from;
-    let told = asked.table.told(near, server, tree, cut);
-    if told.is_some() {
+    let flags = asked.table.flags(near, server, tree, cut);
+    if flags.is_some() {
         return false;
     }
     let servers = tree.name_servers(cut);
@@ -79,7 +79,7 @@ pub(crate) fn queue_referrals<'a>(
         cut,
     } = from;
     let owner = tree.name(cut);
-    let shown = asked.table.told(near, server, tree, cut);
+    let shown = asked.table.flags(near, server, tree, cut);
     let servers = tree.name_servers(cut);
     for (number, ns) in servers.iter().enumerate() {
         let to = LentCut {
@@ -103,13 +103,13 @@ pub(crate) fn queue_referrals<'a>(
     Ok(true)
 }
 
-/// What is told of the referral to the name server of this number, by what is told of its zone cut; where nothing is told
-/// of it, there is nothing to tell.
-fn flags_at(told: Option<&[CutFlags]>, number: usize) -> CutFlags
-    ensures { result ≡ flags_at (option_map (λ told. told.now) told.entry) number }
+/// The flags of the referral to the name server of this number, among those of its zone cut; where there are none, it shows
+/// nothing.
+fn flags_at(of_cut: Option<&[CutFlags]>, number: usize) -> CutFlags
+    ensures { result ≡ flags_at (option_map (λ flags. flags.now) of_cut.entry) number }
 {
-    if let Some(told) = told {
-        if let Some(flags) = told.get(number) {
+    if let Some(all) = of_cut {
+        if let Some(flags) = all.get(number) {
             return *flags;
         }
     }

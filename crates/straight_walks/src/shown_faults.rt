@@ -7,7 +7,7 @@ ghost use Rattle.graph_form.specs.Verdict.{AreFirstTypes};
 ghost use Rattle.net_model.specs.declared.fault.Fault.{Fault as FaultValue};
 ghost use Rattle.zone_lookup.specs.ReferralFaults.{if_shown};
 ghost use Rattle.straight_walks.specs.Faulty.{faulty_cut, flag_faults};
-ghost use Rattle.straight_walks.specs.Straight.{told_of};
+ghost use Rattle.straight_walks.specs.Straight.{faults_by_ends};
 
 use crate::ends::StraightEnds;
 use crate::faulty::Faulty;
@@ -20,17 +20,17 @@ impl<'h, 'a> StraightEnds<'h, 'a> {
     /// The faults that the ends tell of a query, in fault order, each once and with the first type: referrals are met with
     /// all types alike.
     pub fn shown(&self, alloc: Global, query: &Name) -> Result<List<Seen>, NoMemory>
-        ensures { IfOk result (AreFirstTypes (with_type types.A (told_of query.now self.now))) }
+        ensures { IfOk result (AreFirstTypes (with_type types.A (faults_by_ends query.now self.now))) }
     {
         if self.faulty.as_slice().is_empty() {
             return Ok(List::new(alloc));
         }
-        let mut told = List::new(alloc);
+        let mut seen = List::new(alloc);
         for one in self.faulty.as_slice() {
-            put_faults(alloc, query, one, &mut told)?;
+            put_faults(alloc, query, one, &mut seen)?;
         }
         // Named, since the proof speaks of the list that comes where memory suffices.
-        let shown = first_types(alloc, told)?;
+        let shown = first_types(alloc, seen)?;
         Ok(shown)
     }
 }
@@ -40,20 +40,20 @@ fn put_faults(
     alloc: Global,
     query: &Name,
     one: &Faulty<'_>,
-    told: &mut List<Seen>,
+    seen: &mut List<Seen>,
 ) -> Result<(), NoMemory>
-    ensures { OnOk result (told.new ≡ told.old ++ with_type types.A (flag_faults one.now.flags (faulty_cut query.now one.now))) }
+    ensures { OnOk result (seen.new ≡ seen.old ++ with_type types.A (flag_faults one.now.flags (faulty_cut query.now one.now))) }
 {
-    put_shown(alloc, one.flags.lame, Fault::Lame, query, one, told)?;
-    put_shown(alloc, one.flags.differs, Fault::Differs, query, one, told)?;
-    put_shown(alloc, one.flags.no_glue, Fault::NoGlue, query, one, told)?;
+    put_shown(alloc, one.flags.lame, Fault::Lame, query, one, seen)?;
+    put_shown(alloc, one.flags.differs, Fault::Differs, query, one, seen)?;
+    put_shown(alloc, one.flags.no_glue, Fault::NoGlue, query, one, seen)?;
     put_shown(
         alloc,
         one.flags.glue_differs,
         Fault::GlueDiffers,
         query,
         one,
-        told,
+        seen,
     )
 }
 
@@ -64,15 +64,15 @@ fn put_shown<F: Fn(Cut) -> Fault>(
     kind: F,
     query: &Name,
     one: &Faulty<'_>,
-    told: &mut List<Seen>,
+    seen: &mut List<Seen>,
 ) -> Result<(), NoMemory>
     requires { F.IsAlwaysCallable kind }
     ensures { OnOk result ((fault : FaultValue) → ((made : FaultValue) → F.post kind (faulty_cut query.now one.now) made → made ≡ fault)
-        → told.new ≡ told.old ++ with_type types.A (if_shown shown fault)) }
+        → seen.new ≡ seen.old ++ with_type types.A (if_shown shown fault)) }
 {
     if shown {
         let cut = cut_of(alloc, query, one)?;
-        return told.push(Seen {
+        return seen.push(Seen {
             fault: kind(cut),
             rtype: RrType::A,
         });

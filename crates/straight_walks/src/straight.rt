@@ -14,10 +14,10 @@ ghost use Rattle.straight_walks.specs.Ends.{IsOutcomeOf};
 ghost use Rattle.straight_walks.specs.Faulty.{ShowsThese};
 ghost use Rattle.zone_lookup.specs.CutTable.{IsTableOf};
 ghost use Rattle.zone_lookup.specs.Reply.{IsReply};
-ghost use Rattle.straight_walks.specs.Searching.{HavePassed, GoesStraightIn, HoldsOfEachTold};
+ghost use Rattle.straight_walks.specs.Searching.{HavePassed, GoesStraightIn, HoldsOfEachName};
 ghost use Rattle.zone_lookup.specs.declared.reply.Reply.TheVariants as reply_as;
 ghost use Rattle.straight_walks.specs.Regions.{AreRegionsFor, IsSearchBelow};
-ghost use Rattle.straight_walks.specs.Straight.{NoOriginBetween, told_of};
+ghost use Rattle.straight_walks.specs.Straight.{NoOriginBetween, faults_by_ends};
 ghost use Rattle.walk_laws.specs.Outcome.{HasOutcome};
 
 use crate::asked::Asked;
@@ -69,7 +69,7 @@ pub fn straight_ends<'h, 'a>(
     requires regions { AreRegionsFor hosts.now sets.now regions.now }
     ensures few { IfOk result (λ found. IfSome found (λ ends. HasMoreThan (IsReached hosts.now rewrites query.now) states → ⊥)) }
     ensures shown { IfOk result (λ found. IfSome found (λ ends.
-        ShowsThese (with_lists (following hosts.now rewrites sets.now.least) sets.now.least sets.now.greatest) query.now (told_of query.now ends))) }
+        ShowsThese (with_lists (following hosts.now rewrites sets.now.least) sets.now.least sets.now.greatest) query.now (faults_by_ends query.now ends))) }
     ensures bounded { IfOk result (λ found. IfSome found (λ ends. (rtype : RrTypeValue)
         → IsBoundedWith (following hosts.now rewrites sets.now.least) query.now rtype)) }
     ensures outcomes { IfOk result (λ found. IfSome found (λ ends. (rtype : RrTypeValue) (outcome : Optional LeafValue)
@@ -77,11 +77,11 @@ pub fn straight_ends<'h, 'a>(
     ensures few_below { IfOk result (λ found. IfSome found (λ ends. ends.below ≡ true → (name : Labels) → NoOriginBetween hosts.now query.now name
         → HasMoreThan (IsReached hosts.now rewrites name) states → ⊥)) }
     ensures shown_below { IfOk result (λ found. IfSome found (λ ends. ends.below ≡ true → (name : Labels) → NoOriginBetween hosts.now query.now name
-        → ShowsThese (with_lists (following hosts.now rewrites sets.now.least) sets.now.least sets.now.greatest) name (told_of query.now ends))) }
+        → ShowsThese (with_lists (following hosts.now rewrites sets.now.least) sets.now.least sets.now.greatest) name (faults_by_ends query.now ends))) }
     ensures few_unnamed { IfOk result (λ found. IfSome found (λ ends. ends.unnamed_below ≡ true → (tail : Labels) → IsUnnamedTail hosts.now query.now tail
         → HasMoreThan (IsReached hosts.now rewrites (query.now ++ tail)) states → ⊥)) }
     ensures shown_unnamed { IfOk result (λ found. IfSome found (λ ends. ends.unnamed_below ≡ true → (tail : Labels) → IsUnnamedTail hosts.now query.now tail
-        → ShowsThese (with_lists (following hosts.now rewrites sets.now.least) sets.now.least sets.now.greatest) (query.now ++ tail) (told_of query.now ends))) }
+        → ShowsThese (with_lists (following hosts.now rewrites sets.now.least) sets.now.least sets.now.greatest) (query.now ++ tail) (faults_by_ends query.now ends))) }
 {
     let Some(states) = states_left(hosts, states) else {
         return Ok(None);
@@ -121,7 +121,7 @@ fn ends_by_region<'h, 'a>(
 ) -> Result<Option<StraightEnds<'h, 'a>>, NoMemory>
     requires table { IsTableOf asked.hosts.now asked.sets.now asked.table.now }
     requires regions { AreRegionsFor asked.hosts.now asked.sets.now regions.now }
-    ensures { IfOk result (λ found. IfSome found (HoldsOfEachTold asked.entry.hosts.now asked.entry.name.now
+    ensures { IfOk result (λ found. IfSome found (HoldsOfEachName asked.entry.hosts.now asked.entry.name.now
         (GoesStraightIn asked.entry.hosts.now asked.entry.sets.now limits.rewrites (limits.states + length asked.entry.hosts.now.tops)))) }
 {
     match regions.search_for(near, asked.name) {
@@ -143,7 +143,7 @@ fn ends_from<'h, 'a>(
 ) -> Result<Option<StraightEnds<'h, 'a>>, NoMemory>
     requires table { IsTableOf asked.hosts.now asked.sets.now asked.table.now }
     requires searched { IsSearchBelow asked.hosts.now asked.sets.now asked.name.now searched.now }
-    ensures { IfOk result (λ found. IfSome found (HoldsOfEachTold asked.entry.hosts.now asked.entry.name.now
+    ensures { IfOk result (λ found. IfSome found (HoldsOfEachName asked.entry.hosts.now asked.entry.name.now
         (GoesStraightIn asked.entry.hosts.now asked.entry.sets.now limits.rewrites (limits.states + length asked.entry.hosts.now.tops)))) }
 {
     let queue = searched.queue.as_slice();
@@ -173,7 +173,7 @@ fn ends_from<'h, 'a>(
 }
 
 /// What walks end in that go straight within the limits from all queued states, and from those to which their servers
-/// refer the query. A search has passed the first so many of them; what walks end in there is told.
+/// refer the query. A search has passed the first so many of them, and has the ends of walks there.
 fn all_ends<'h, 'a>(
     alloc: Global,
     asked: Asked<'h, '_, 'a>,
@@ -184,7 +184,7 @@ fn all_ends<'h, 'a>(
 ) -> Result<Option<StraightEnds<'h, 'a>>, NoMemory>
     requires table { IsTableOf asked.hosts.now asked.sets.now asked.table.now }
     requires passed { HavePassed asked.hosts.now asked.sets.now asked.name.now queue passed ends }
-    ensures { IfOk result (λ found. IfSome found (HoldsOfEachTold asked.entry.hosts.now asked.entry.name.now
+    ensures { IfOk result (λ found. IfSome found (HoldsOfEachName asked.entry.hosts.now asked.entry.name.now
         (GoesStraightIn asked.entry.hosts.now asked.entry.sets.now limits.rewrites (limits.states + length asked.entry.hosts.now.tops)))) }
 {
     let mut queue = queue;
@@ -211,8 +211,8 @@ fn all_ends<'h, 'a>(
 }
 
 /// Whether a search passes the next state too, that at this place, whose server refers the query by this zone cut: it
-/// does where walks are seen to go straight by the referrals. The states to which they lead are queued then, and it is told
-/// whether walks fail, and which of the referrals show faults.
+/// does where walks are seen to go straight by the referrals. The states to which they lead are queued then, and the ends
+/// say whether walks fail, and which of the referrals show faults.
 fn passes_referral<'h, 'a>(
     asked: Asked<'h, '_, 'a>,
     tree: &'h Tree<'a>,

@@ -19,7 +19,7 @@ use Rattle.net_model.specs.Nearest.{held_zone, server_named, zone_with_origin}
 use Rattle.net_model.specs.Zone.{exists_in}
 use Rattle.zone_tree.specs.Tree.{ZoneTree, IsNode, name_of}
 use Rattle.zone_lookup.specs.CutFlags.{flags_of, is_quiet}
-use Rattle.zone_lookup.specs.CutTable.{AreRowsOf, HostRow, IsHostRow, IsPut, IsTableOf, IsToldOf, IsWholeTree, IsZoneRow, TellsPlaces, ZoneRow, referrals_at, told_at, told_of}
+use Rattle.zone_lookup.specs.CutTable.{AreRowsOf, HostRow, IsHostRow, IsPut, IsTableOf, AreCutFlags, IsWholeTree, IsZoneRow, HasFlagsOf, ZoneRow, referrals_at, flags_in_zone, flags_in_host}
 use Rattle.zone_lookup.specs.Hosts.{AreTreesOf}
 use Rattle.zone_lookup.specs.Named.{item_named}
 use Rattle.zone_lookup.specs.declared.cut_flags.CutFlags.{CutFlags}
@@ -56,23 +56,23 @@ one_tree a b whole other same =
     ap (λ (z : Zone). record { zone = z; names = a.names }) same ∙ ap (λ (n : List Labels). record { zone = b.zone; names = n }) names
 
 module _ (config : Config) (deps : Deps) where
-  -- rows beside the trees of a server's zones tell of these
-  pub host_told : (host : Server) (trees : List ZoneTree) (row : HostRow) → row.server ≡ host.name → AreTreesOf host.zones trees
+  -- rows beside the trees of a server's zones are the server's row
+  pub row_of_host : (host : Server) (trees : List ZoneTree) (row : HostRow) → row.server ≡ host.name → AreTreesOf host.zones trees
       → AllZip (IsZoneRow config deps host.name) trees row.zones → IsHostRow config deps host row
-  host_told host trees row named are beside =
+  row_of_host host trees row named are beside =
       record {
         name = named;
-        told = λ is_host tree node held whole within.
+        flags = λ is_host tree node held whole within.
             let found = mapped_some (λ (t : ZoneTree). t.zone) (item_named (λ (t : ZoneTree). t.zone.origin) trees tree.zone.origin) tree.zone (are.firsts tree.zone.origin ∙ held) in
             let there = beside_named (IsZoneRow config deps host.name) (λ (t : ZoneTree). t.zone.origin) (λ (z : ZoneRow). z.origin) (λ t z is. is.origin)
             tree.zone.origin trees row.zones found.0 beside found.1 in
             let one : found.0 ≡ tree = one_tree found.0 tree there.2.whole whole found.2 in
             let its : held_zone config host.name tree.zone.origin ≡ Some tree.zone =
             ap (option_and_then (λ (h : Server). zone_with_origin h tree.zone.origin)) is_host ∙ held in
-            let tells : TellsPlaces config deps host.name tree (IsNode tree) there.0.cuts =
-            subst (λ (t : ZoneTree). held_zone config host.name t.zone.origin ≡ Some t.zone → TellsPlaces config deps host.name t (IsNode t) there.0.cuts) one there.2.told its in
-            subst (IsToldOf config deps (referrals_at host.name tree.zone (name_of tree node)))
-            (sym (ap (option_and_then (λ (z : ZoneRow). told_at z.cuts node)) there.1)) (tells node within);
+            let tells : HasFlagsOf config deps host.name tree (IsNode tree) there.0.cuts =
+            subst (λ (t : ZoneTree). held_zone config host.name t.zone.origin ≡ Some t.zone → HasFlagsOf config deps host.name t (IsNode t) there.0.cuts) one there.2.flags its in
+            subst (AreCutFlags config deps (referrals_at host.name tree.zone (name_of tree node)))
+            (sym (ap (option_and_then (λ (z : ZoneRow). flags_in_zone z.cuts node)) there.1)) (tells node within);
       }
 
   -- rows of all servers are a table of the configuration
@@ -85,13 +85,13 @@ module _ (config : Config) (deps : Deps) where
             let found = mapped_some (λ (h : Server). h) (item_named (λ (h : Server). h.name) are.hosts server) host (are.are.firsts server ∙ named) in
             let there = beside_named (IsHostRow config deps) (λ (h : Server). h.name) (λ (r : HostRow). r.server) (λ h r is. is.name)
             server are.hosts rows found.0 are.beside found.1 in
-            let told : IsHostRow config deps host there.0 = subst (λ (h : Server). IsHostRow config deps h there.0) found.2 there.2 in
+            let row : IsHostRow config deps host there.0 = subst (λ (h : Server). IsHostRow config deps h there.0) found.2 there.2 in
             let its : host.name ≡ server = (name_eq_decides host.name server).0 (found_there (λ (h : Server). name_eq h.name server) config.servers host named).1 in
-            let says : IsToldOf config deps (referrals_at server tree.zone (name_of tree node)) (told_of there.0 tree.zone.origin node) =
-            subst (λ (n : Labels). IsToldOf config deps (referrals_at n tree.zone (name_of tree node)) (told_of there.0 tree.zone.origin node)) its
-            (told.told (ap (server_named config) its ∙ named) tree node in_host whole within) in
-            subst (IsToldOf config deps (referrals_at server tree.zone (name_of tree node)))
-            (sym (ap (option_and_then (λ (r : HostRow). told_of r tree.zone.origin node)) there.1)) says);
+            let says : AreCutFlags config deps (referrals_at server tree.zone (name_of tree node)) (flags_in_host there.0 tree.zone.origin node) =
+            subst (λ (n : Labels). AreCutFlags config deps (referrals_at n tree.zone (name_of tree node)) (flags_in_host there.0 tree.zone.origin node)) its
+            (row.flags (ap (server_named config) its ∙ named) tree node in_host whole within) in
+            subst (AreCutFlags config deps (referrals_at server tree.zone (name_of tree node)))
+            (sym (ap (option_and_then (λ (r : HostRow). flags_in_host r tree.zone.origin node)) there.1)) says);
       }
 
   -- referrals are quiet whose flags are
@@ -101,36 +101,36 @@ module _ (config : Config) (deps : Deps) where
   quiet_cuts (cut ∷ cuts) all = (all.0, quiet_cuts cuts all.1)
 
   module _ (server : Labels) (tree : ZoneTree) where
-    -- the row so far: it tells of the names before the place, and holds nothing for those from there on
+    -- the row so far: it has the flags of the names before the place, and none of those from there on
     pub record IsRowUpTo (place : ℕ) (cuts : List (ℕ × List CutFlags)) : Type 0 where
-      pub told : TellsPlaces config deps server tree (λ node. node < place) cuts
-      pub behind : (node : ℕ) → place ≤ node → told_at cuts node ≡ None
+      pub flags : HasFlagsOf config deps server tree (λ node. node < place) cuts
+      pub behind : (node : ℕ) → place ≤ node → flags_in_zone cuts node ≡ None
 
-    -- with the flags of one more name put it tells of one more
-    pub told_more : (place : ℕ) (flags : List CutFlags) (old new : List (ℕ × List CutFlags)) → IsRowUpTo place old → IsPut place flags old new
+    -- with the flags of one more name put it has those of one more
+    pub flags_more : (place : ℕ) (flags : List CutFlags) (old new : List (ℕ × List CutFlags)) → IsRowUpTo place old → IsPut place flags old new
         → flags ≡ map (flags_of config deps) (referrals_at server tree.zone (name_of tree place)) → IsRowUpTo (place + 1) new
-    told_more place flags old new far put is =
+    flags_more place flags old new far put is =
         record {
-          told = λ node within. elim (cases_lt node place) [
-            | inl lower ↦ subst (IsToldOf config deps (referrals_at server tree.zone (name_of tree node)))
-                (sym (put.others node (sym (ap is_eq (nat_cmp_is place node Greater lower))))) (far.told node lower)
+          flags = λ node within. elim (cases_lt node place) [
+            | inl lower ↦ subst (AreCutFlags config deps (referrals_at server tree.zone (name_of tree node)))
+                (sym (put.others node (sym (ap is_eq (nat_cmp_is place node Greater lower))))) (far.flags node lower)
             | inr last ↦ (
                 let same : place ≡ node = omega arith in
-                subst (λ (n : ℕ). IsToldOf config deps (referrals_at server tree.zone (name_of tree n)) (told_at new n)) same here)
+                subst (λ (n : ℕ). AreCutFlags config deps (referrals_at server tree.zone (name_of tree n)) (flags_in_zone new n)) same here)
           ];
           behind = λ node beyond.
               put.others node (sym (ap is_eq (nat_cmp_is place node Less (omega (arith, beyond))))) ∙ far.behind node (omega (arith, beyond));
         }
       where
-        here : IsToldOf config deps (referrals_at server tree.zone (name_of tree place)) (told_at new place)
+        here : AreCutFlags config deps (referrals_at server tree.zone (name_of tree place)) (flags_in_zone new place)
         here =
             elim put.there [
-              | inl some ↦ subst (IsToldOf config deps (referrals_at server tree.zone (name_of tree place))) (sym some) is
+              | inl some ↦ subst (AreCutFlags config deps (referrals_at server tree.zone (name_of tree place))) (sym some) is
               | inr quiet ↦ (
-                  let none : told_at new place ≡ None = quiet.1 ∙ far.behind place (omega arith) in
+                  let none : flags_in_zone new place ≡ None = quiet.1 ∙ far.behind place (omega arith) in
                   let all : AllByRecursion (λ (cut : Cut). is_quiet (flags_of config deps cut) ≡ true) (referrals_at server tree.zone (name_of tree place)) =
                   quiet_cuts (referrals_at server tree.zone (name_of tree place)) (subst (AllByRecursion (λ (one : CutFlags). is_quiet one ≡ true)) is quiet.0) in
-                  subst (IsToldOf config deps (referrals_at server tree.zone (name_of tree place))) (sym none) all)
+                  subst (AreCutFlags config deps (referrals_at server tree.zone (name_of tree place))) (sym none) all)
             ]
 
 -- one item more beside one more

@@ -235,15 +235,15 @@ module _ (config : Config) (name : Labels) where
 -- ---- top servers that stand for others
 
 module _ (config : Config) (name : Labels) where
-  -- where walks end at each of some servers it's told of each
-  told_at : (servers : List Labels) (given : Bool) → AreEnds config name servers given → (server : Labels) → Contains servers server
+  -- where walks end at each of some servers, they end at any of them
+  ends_there : (servers : List Labels) (given : Bool) → AreEnds config name servers given → (server : Labels) → Contains servers server
       → (here : Bool) × EndsAt config name server here × (here ≡ true → given ≡ true)
-  told_at [] given are server has = absurd (none_in_nil server has)
-  told_at (first ∷ servers) given (here, later, ends, behind, is) server has =
+  ends_there [] given are server has = absurd (none_in_nil server has)
+  ends_there (first ∷ servers) given (here, later, ends, behind, is) server has =
       elim (first_or_later first servers server has) [
         | inl same ↦ (here, subst (λ (s : Labels). EndsAt config name s here) same ends, λ gives. is ∙ ap (λ (b : Bool). b || later) gives)
         | inr rest ↦ (
-            let (there, at, gives_there) = told_at servers later behind server rest in
+            let (there, at, gives_there) = ends_there servers later behind server rest in
             (there, at, λ gives. is ∙ ap (λ (b : Bool). here || b) (gives_there gives) ∙ or-true here)
             )
       ]
@@ -280,7 +280,7 @@ module _ (config : Config) (name : Labels) where
   ends_like servers given are [] each = (false, refl, λ gives. absurd (true≢false (sym gives)))
   ends_like servers given are (top ∷ tops) each =
       let (other, has, same) = each top (has_first top tops) in
-      let (here, ends, gives_here) = told_at servers given are other has in
+      let (here, ends, gives_here) = ends_there servers given are other has in
       let (later, behind, gives_later) = ends_like servers given are tops (λ t among. each t (has_later top tops t among)) in (
         here || later,
         (here, later, ends_alike other top here (same name) ends, behind, refl),
@@ -295,7 +295,7 @@ module _ (config : Config) (name : Labels) where
       let (all, ends, gives) = ends_like servers given are tops each in
       subst (AreEnds config name tops) (alike all given gives (λ yes.
       let (server, has, at) = giving_one servers given are yes in
-      let (here, ends_here, gives_here) = told_at tops all ends server (some server has) in
+      let (here, ends_here, gives_here) = ends_there tops all ends server (some server has) in
       gives_here (told_once server here true ends_here at))) ends
     where
       alike : (a b : Bool) → (a ≡ true → b ≡ true) → (b ≡ true → a ≡ true) → a ≡ b

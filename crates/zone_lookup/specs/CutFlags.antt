@@ -26,7 +26,7 @@ flags_of config deps cut = record {
   no_address = lacks_address config deps cut;
 }
 
--- what a referral shows of which no more is told than whether glue is missing
+-- what a referral shows of which the glue alone is looked for
 abbrev pub glue_alone : Bool → CutFlags
 glue_alone missing = record { differs = false; no_glue = missing; glue_differs = false; cyclic = false; no_address = false }
 

@@ -46,7 +46,7 @@ impl CutFlags {
         }
     }
 
-    /// What a referral shows of which no more is to be told than whether glue is missing.
+    /// What a referral shows of which the glue alone is looked for.
     pub fn of_glue(missing: bool) -> CutFlags
         ensures { result ≡ glue_alone missing }
     {

@@ -1,4 +1,4 @@
-//! What the referrals of zone cuts show, told once for each zone of each server.
+//! What the referrals of zone cuts show, kept once for each zone of each server.
 
 ghost use Rattle.std.specs.Prelude.{◌≡◌, true, map, Some, IfOk, OnOk};
 ghost use Rattle.std.specs.List.{AllByRecursion, AllZip};
@@ -7,7 +7,7 @@ ghost use Rattle.dns_data.specs.Name.{is_prefix};
 ghost use Rattle.net_model.specs.Nearest.{held_zone};
 ghost use Rattle.zone_tree.specs.Tree.{IsNode, name_of};
 ghost use Rattle.zone_lookup.specs.CutFlags.{flags_of, is_quiet};
-ghost use Rattle.zone_lookup.specs.CutTable.{AreRowsOf, IsHostRow, IsPut, IsTableOf, IsWholeTree, IsZoneRow, cut_to, referrals_at, told_at, told_in, told_of};
+ghost use Rattle.zone_lookup.specs.CutTable.{AreRowsOf, IsHostRow, IsPut, IsTableOf, IsWholeTree, IsZoneRow, cut_to, referrals_at, flags_in_zone, flags_in_table, flags_in_host};
 ghost use Rattle.zone_lookup.specs.LentCut.{cut_of};
 
 use crate::cut_flags::CutFlags;
@@ -22,7 +22,7 @@ use std::collections::BTreeMap;
 use std::marker::Model;
 use zone_tree::{NodeId, Tree};
 
-/// What is told of the zone cuts of one zone, by the places of their names among the existing ones.
+/// The flags of the zone cuts of one zone, by the places of their names among the existing ones.
 #[derive(Drop)]
 pub(crate) struct ZoneCuts<'a> {
     origin: &'a Name,
@@ -37,7 +37,7 @@ impl<'a> Model for ZoneCuts<'a> {
     ghost view = { λ row. record { origin = row.origin.now; cuts = row.cuts.entries } };
 }
 
-/// What is told of the zones of one server, in the order of their origins.
+/// The rows of the zones of one server, in the order of their origins.
 #[derive(Drop)]
 pub(crate) struct HostCuts<'a> {
     server: &'a Name,
@@ -57,7 +57,7 @@ impl<'a> Model for HostCuts<'a> {
     ghost invariant = { λ row. IsStrictlySortedBy name_cmp (map (λ zone. zone.origin) row.zones.items) };
 }
 
-/// What the referrals of the zone cuts of a configuration show, told once for each name server of each cut. A zone cut
+/// What the referrals of the zone cuts of a configuration show, kept once for each name server of each cut. A zone cut
 /// takes no memory where its referrals show no fault and the address of each name server is known that is configured.
 #[derive(Drop)]
 pub struct CutTable<'a> {
@@ -109,7 +109,7 @@ impl<'a> CutTable<'a> {
     /// What the referrals of a zone cut show, one to each of its name servers, in their order; `None` where they show no
     /// fault, and the address of each name server is known that is configured. The tree is that of the zone in which the
     /// server of this name refers; server and zone are looked for near a place first, whatever that is. It takes no memory.
-    pub fn told(
+    pub fn flags(
         &self,
         near: Near,
         server: &Name,
@@ -117,42 +117,42 @@ impl<'a> CutTable<'a> {
         cut: NodeId,
     ) -> Option<&[CutFlags]>
         requires { IsNode tree.now cut }
-        ensures told { option_map (λ told. told.now) result ≡ told_in self.now server.now tree.now.zone.origin cut }
+        ensures flags { option_map (λ flags. flags.now) result ≡ flags_in_table self.now server.now tree.now.zone.origin cut }
         ensures whole { IsWholeTree tree.now }
     {
         let origin = &tree.zone().origin;
         match item_near(self.hosts.as_slice(), near.host, server) {
-            Some(row) => row.told(near.tree, origin, cut.place()),
+            Some(row) => row.flags(near.tree, origin, cut.place()),
             None => None,
         }
     }
 }
 
 impl<'a> HostCuts<'a> {
-    /// What is told of the name at a place in the server's zone with this origin, which is looked for near a place first.
-    fn told(&self, near: usize, origin: &Name, place: usize) -> Option<&[CutFlags]>
-        ensures { option_map (λ told. told.now) result ≡ told_of self.now origin.now place }
+    /// The flags of the name at a place in the server's zone with this origin, which is looked for near a place first.
+    fn flags(&self, near: usize, origin: &Name, place: usize) -> Option<&[CutFlags]>
+        ensures { option_map (λ flags. flags.now) result ≡ flags_in_host self.now origin.now place }
     {
         match item_near(self.zones.as_slice(), near, origin) {
-            Some(row) => row.told(place),
+            Some(row) => row.flags(place),
             None => None,
         }
     }
 }
 
 impl<'a> ZoneCuts<'a> {
-    /// What is told of the name at a place.
-    fn told(&self, place: usize) -> Option<&[CutFlags]>
-        ensures { option_map (λ told. told.now) result ≡ told_at self.now.cuts place }
+    /// The flags of the name at a place.
+    fn flags(&self, place: usize) -> Option<&[CutFlags]>
+        ensures { option_map (λ flags. flags.now) result ≡ flags_in_zone self.now.cuts place }
     {
         match self.cuts.get(&place) {
-            Some(told) => Some(told.items()),
+            Some(flags) => Some(flags.items()),
             None => None,
         }
     }
 }
 
-/// What is told of each server's zones, in the order of the servers' names.
+/// The row of each server's zones, in the order of the servers' names.
 fn host_rows<'a>(
     alloc: Global,
     hosts: &Hosts<'a>,
@@ -167,7 +167,7 @@ fn host_rows<'a>(
     Ok(rows)
 }
 
-/// What is told of a server's zones.
+/// The row of a server's zones.
 fn host_row<'a>(
     alloc: Global,
     hosts: &Hosts<'a>,
@@ -183,7 +183,7 @@ fn host_row<'a>(
     })
 }
 
-/// What is told of each of the zones that the server of this name holds.
+/// The row of each of the zones that the server of this name holds.
 fn zone_rows<'a>(
     alloc: Global,
     hosts: &Hosts<'a>,
@@ -200,7 +200,7 @@ fn zone_rows<'a>(
     Ok(rows)
 }
 
-/// What is told of a zone that the server of this name holds.
+/// The row of a zone that the server of this name holds.
 fn zone_row<'a>(
     alloc: Global,
     hosts: &Hosts<'a>,

@@ -181,7 +181,7 @@ fn place_near<T: Named>(items: &[T], near: usize, name: &Labels<'_>) -> Result<u
     ensures range { IsSearchInRange result (length items.now) }
     ensures position { IsBinarySearchResult (λ item. name_cmp (T.name_of item) name.now) items.now result }
 {
-    match told_near(items, near, name) {
+    match place_at_or_behind(items, near, name) {
         Some(place) => place,
         None => place_of(items, name),
     }
@@ -189,12 +189,16 @@ fn place_near<T: Named>(items: &[T], near: usize, name: &Labels<'_>) -> Result<u
 
 /// The place of the item of this name, or how many items stand before the name, where the item at a place and the next
 /// one tell it.
-fn told_near<T: Named>(items: &[T], near: usize, name: &Labels<'_>) -> Option<Result<usize, usize>>
+fn place_at_or_behind<T: Named>(
+    items: &[T],
+    near: usize,
+    name: &Labels<'_>,
+) -> Option<Result<usize, usize>>
     ensures range { IfSome result (λ place. IsSearchInRange place (length items.now)) }
     ensures position { IfSome result (IsBinarySearchResult (λ item. name_cmp (T.name_of item) name.now) items.now) }
 {
     match order_at(items, near, name)? {
-        Ordering::Less => told_behind(items, near, name),
+        Ordering::Less => place_behind(items, near, name),
         Ordering::Equal => Some(Ok(near)),
         Ordering::Greater => None,
     }
@@ -202,7 +206,7 @@ fn told_near<T: Named>(items: &[T], near: usize, name: &Labels<'_>) -> Option<Re
 
 /// The place of the item of this name, or how many items stand before the name, where the item behind one that stands
 /// before the name tells it.
-fn told_behind<T: Named>(
+fn place_behind<T: Named>(
     items: &[T],
     before: usize,
     name: &Labels<'_>,

@@ -3,7 +3,7 @@
 ghost use Rattle.std.specs.Prelude.{◌≡◌, IfOk, length};
 
 use super::configs::{graph_of, loaded, name, spells};
-use address_deps::{AddressTold, dependencies, told_by};
+use address_deps::{AddressLearnt, dependencies, learnt_by_graph};
 use dns_data::{List, Name, NameFault};
 use interp_graph::GraphFault;
 use net_model::Config;
@@ -81,24 +81,24 @@ fn are_both(alloc: Global, found: &[Name]) -> bool {
 /// Whether by the graphs of the servers' names the least set is empty, and the greatest has both firms' servers.
 fn graphs_give_both_sets(alloc: Global, config: &Config) -> Result<bool, GraphFault> {
     let hosts = Hosts::build(alloc, config)?;
-    let told = told_by_graphs(alloc, config, &hosts)?;
-    let deps = dependencies(alloc, config, told.items())?;
+    let addresses = learnt_by_graphs(alloc, config, &hosts)?;
+    let deps = dependencies(alloc, config, addresses.items())?;
     Ok(deps.least.is_empty() && are_both(alloc, deps.greatest.items()))
 }
 
 /// What the graphs of the servers' names tell, in their order.
-fn told_by_graphs<'a>(
+fn learnt_by_graphs<'a>(
     alloc: Global,
     config: &Config,
     hosts: &Hosts<'a>,
-) -> Result<List<AddressTold<'a>>, GraphFault>
-    ensures { IfOk result (λ told. length told ≡ length config.now.servers) }
+) -> Result<List<AddressLearnt<'a>>, GraphFault>
+    ensures { IfOk result (λ addresses. length addresses ≡ length config.now.servers) }
 {
-    let mut told = List::new(alloc);
+    let mut addresses = List::new(alloc);
     for server in config.servers() {
         let query = server.name.copy(alloc)?;
         let graph = graph_of(alloc, hosts, query)?;
-        told.push(told_by(alloc, hosts, &graph)?)?;
+        addresses.push(learnt_by_graph(alloc, hosts, &graph)?)?;
     }
-    Ok(told)
+    Ok(addresses)
 }

@@ -2,7 +2,7 @@ use Rattle.std.proofs.Common.{List, ◌++◌, ap, ◌∙◌}
 use Rattle.std.proofs.lemmas.List.{take_all}
 use Rattle.graph_form.proofs.Verdicts.{put_more, put_all}
 use Rattle.address_deps.specs.Dependents.{turns_await}
-use Rattle.address_deps.specs.declared.told.Turn.{Turn}
+use Rattle.address_deps.specs.declared.addresses.Turn.{Turn}
 use Rattle.address_deps.proofs.Listing.{borrowed_names}
 use Rattle.address_deps.proofs.dependents.put_nodes.Goals as goal
 

@@ -9,5 +9,5 @@ loop-place-preserved c =
 
 pub returns : goal.returns
 returns c =
-    let all : c.loop-place.place ≡ length c.args.told.now = omega (arith, c.loop-place-test.false, c.loop-place.auto.place-end) in
+    let all : c.loop-place.place ≡ length c.args.addresses.now = omega (arith, c.loop-place-test.false, c.loop-place.auto.place-end) in
     subst (λ (bound : ℕ). AreAllPlaces bound c.loop-place.places) all c.loop-place.invariant

@@ -5,5 +5,5 @@ use Rattle.address_deps.proofs.direction.round.Given as goal
 -- the servers so far were looked at
 abbrev pub invariant-loop-place : goal.invariant-loop-place
 invariant-loop-place l =
-    IsRoundAt (IsFair l.fn.direction l.hosts l.told) (IsSettledAt l.fn.direction l.hosts l.told) (unmoved l.fn.direction l.hosts.servers) l.told l.waiting l.fn.names
+    IsRoundAt (IsFair l.fn.direction l.hosts l.addresses) (IsSettledAt l.fn.direction l.hosts l.addresses) (unmoved l.fn.direction l.hosts.servers) l.addresses l.waiting l.fn.names
     l.place-index l.names l.next

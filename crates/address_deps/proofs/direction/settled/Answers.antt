@@ -27,6 +27,6 @@ returns c =
       fair = on.good;
       settled = λ place within. elim (on.others place within) [
         | inl waits ↦ absurd (none_waits c.loop-alloc.waiting none place waits)
-        | inr told ↦ told
+        | inr is ↦ is
       ];
     }

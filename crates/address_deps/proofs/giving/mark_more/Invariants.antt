@@ -2,8 +2,8 @@ use Rattle.std.proofs.Common.{◌≡◌, ℕ, List, ◌≤◌, ◌<◌, true, fa
 use Rattle.std.specs.Prelude.{slice_get}
 use Rattle.std.specs.List.{list_any}
 use Rattle.address_deps.specs.Giving.{AreGiving, is_marked, names_followed, unmarked}
-use Rattle.address_deps.specs.Told.{turn_gives}
-use Rattle.address_deps.specs.declared.told.Turn.{Turn}
+use Rattle.address_deps.specs.Addresses.{turn_gives}
+use Rattle.address_deps.specs.declared.addresses.Turn.{Turn}
 use Rattle.address_deps.proofs.giving.mark_more.Given as goal
 
 -- the nodes that were looked at

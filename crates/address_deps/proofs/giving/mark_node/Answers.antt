@@ -2,7 +2,7 @@ use Rattle.std.proofs.Common.{true, length, refl, sym, ap, ◌∙◌}
 use Rattle.std.specs.List.{list_any}
 use Rattle.std.proofs.lemmas.Option.{slice_get_read}
 use Rattle.address_deps.specs.Giving.{is_marked, names_followed}
-use Rattle.address_deps.specs.Told.{turn_gives}
+use Rattle.address_deps.specs.Addresses.{turn_gives}
 use Rattle.address_deps.proofs.GivingNodes.{giving_node}
 use Rattle.address_deps.proofs.Marks.{giving_more}
 use Rattle.address_deps.proofs.giving.mark_node.Goals as goal

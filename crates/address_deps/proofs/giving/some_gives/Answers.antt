@@ -1,7 +1,7 @@
 use Rattle.std.proofs.Common.{◌≡◌, ◌↔◌, true, false, Bool, List, length, replicate, sym, ap, ◌∙◌, subst}
 use Rattle.std.proofs.lemmas.List.{length-replicate}
 use Rattle.address_deps.specs.Giving.{is_marked, names_followed}
-use Rattle.address_deps.specs.Told.{PathGives}
+use Rattle.address_deps.specs.Addresses.{PathGives}
 use Rattle.address_deps.proofs.GivingNodes.{starts_tell}
 use Rattle.address_deps.proofs.Marks.{none_giving, all_clear}
 use Rattle.address_deps.proofs.giving.some_gives.Goals as goal

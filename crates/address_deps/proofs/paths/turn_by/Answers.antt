@@ -2,7 +2,7 @@ use Rattle.std.proofs.Common.{sym, ◌∙◌, subst}
 use Rattle.net_model.specs.declared.walk.Hop.{Hop}
 use Rattle.graph_form.specs.declared.node.Branch.TheVariants.{Go}
 use Rattle.address_deps.specs.Giving.{IsTurnOf}
-use Rattle.address_deps.specs.declared.told.Turn.TheVariants.{Fails, Waits}
+use Rattle.address_deps.specs.declared.addresses.Turn.TheVariants.{Fails, Waits}
 use Rattle.address_deps.proofs.TurnsTaken.{awaited_turn, failing_turn}
 use Rattle.address_deps.proofs.paths.turn_by.Goals as goal
 

@@ -4,7 +4,7 @@ use Rattle.std.proofs.lemmas.List.{take_more}
 use Rattle.std.proofs.lemmas.Slice.Zip.{all_zipped_more}
 use Rattle.graph_form.specs.declared.node.Branch.{Branch}
 use Rattle.address_deps.specs.Giving.{IsTurnOf}
-use Rattle.address_deps.specs.declared.told.Turn.{Turn}
+use Rattle.address_deps.specs.declared.addresses.Turn.{Turn}
 use Rattle.address_deps.proofs.paths.turns.Goals as goal
 
 pub loop-branch-preserved : goal.loop-branch-preserved

@@ -7,7 +7,7 @@ use Rattle.graph_form.specs.Graph.{branches_of}
 use Rattle.graph_form.specs.declared.node.Branch.{Branch}
 use Rattle.graph_form.specs.declared.node.Node.{Node}
 use Rattle.address_deps.specs.Giving.{IsTurnOf}
-use Rattle.address_deps.specs.declared.told.Turn.{Turn}
+use Rattle.address_deps.specs.declared.addresses.Turn.{Turn}
 use Rattle.address_deps.proofs.paths.turns_of.Goals as goal
 
 pub loop-at-preserved : goal.loop-at-preserved

@@ -3,7 +3,7 @@ use Rattle.std.specs.List.{AllZip}
 use Rattle.graph_form.specs.Graph.{branches_of}
 use Rattle.graph_form.specs.declared.node.Node.{Node}
 use Rattle.address_deps.specs.Giving.{IsTurnOf}
-use Rattle.address_deps.specs.declared.told.Turn.{Turn}
+use Rattle.address_deps.specs.declared.addresses.Turn.{Turn}
 use Rattle.address_deps.proofs.paths.turns_of.Given as goal
 
 -- those of the nodes so far

@@ -3,7 +3,7 @@ use Rattle.std.proofs.lemmas.List.{take_all}
 use Rattle.std.proofs.lemmas.Option.{get_or_from_slice_get}
 use Rattle.graph_form.proofs.Places.{item_there}
 use Rattle.graph_form.proofs.Verdicts.{put_more, put_all}
-use Rattle.delegation_checks.proofs.ToldBranches.{node_seen, of_graph}
+use Rattle.delegation_checks.proofs.FlaggedBranches.{node_seen, of_graph}
 use Rattle.delegation_checks.proofs.cut_faults.cut_faults_of.Goals as goal
 
 pub loop-number-init : goal.loop-number-init

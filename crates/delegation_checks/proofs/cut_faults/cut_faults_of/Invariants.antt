@@ -3,7 +3,7 @@ use Rattle.std.specs.List.{flat_map}
 use Rattle.net_model.specs.declared.deps.Deps.{Deps}
 use Rattle.zone_lookup.specs.CutTable.{IsTableOf}
 use Rattle.delegation_checks.specs.Referrals.{GraphRefers}
-use Rattle.delegation_checks.proofs.ToldBranches.{node_seen}
+use Rattle.delegation_checks.proofs.FlaggedBranches.{node_seen}
 use Rattle.delegation_checks.proofs.cut_faults.cut_faults_of.Given as goal
 
 -- those of the nodes so far

@@ -2,7 +2,7 @@ use Rattle.std.proofs.Common.{◌++◌, List, sym, ap, ◌∙◌}
 use Rattle.std.proofs.lemmas.List.{append-nil}
 use Rattle.graph_form.specs.Branches.{with_type}
 use Rattle.net_model.specs.declared.fault.Fault.{Fault}
-use Rattle.delegation_checks.proofs.ToldBranches.{quiet_tells}
+use Rattle.delegation_checks.proofs.FlaggedBranches.{quiet_tells}
 use Rattle.delegation_checks.proofs.cut_faults.put_branch.Goals as goal
 
 pub returns-then-is_quiet : goal.returns-then-is_quiet

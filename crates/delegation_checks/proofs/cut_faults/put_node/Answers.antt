@@ -6,7 +6,7 @@ use Rattle.std.proofs.lemmas.List.Elements.{Contains-get_or}
 use Rattle.graph_form.specs.declared.node.Arm.{Arm}
 use Rattle.graph_form.specs.declared.report.Seen.{Seen}
 use Rattle.graph_form.proofs.Verdicts.{put_more, put_all}
-use Rattle.delegation_checks.proofs.ToldBranches.{arm_seen, of_node}
+use Rattle.delegation_checks.proofs.FlaggedBranches.{arm_seen, of_node}
 use Rattle.delegation_checks.proofs.cut_faults.put_node.Goals as goal
 
 pub loop-arm-init : goal.loop-arm-init

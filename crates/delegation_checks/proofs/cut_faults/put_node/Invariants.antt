@@ -3,7 +3,7 @@ use Rattle.std.specs.List.{flat_map}
 use Rattle.net_model.specs.declared.deps.Deps.{Deps}
 use Rattle.zone_lookup.specs.CutTable.{IsTableOf}
 use Rattle.delegation_checks.specs.Referrals.{NodeRefers}
-use Rattle.delegation_checks.proofs.ToldBranches.{arm_seen}
+use Rattle.delegation_checks.proofs.FlaggedBranches.{arm_seen}
 use Rattle.delegation_checks.proofs.cut_faults.put_node.Given as goal
 
 -- those of the arms so far

@@ -3,16 +3,16 @@ use Rattle.std.specs.Option.{IfSome}
 use Rattle.dns_data.specs.Name.{Labels}
 use Rattle.zone_lookup.specs.Resting.{Rests}
 use Rattle.plain_resolver.specs.Passed.{HasTooMany}
-use Rattle.plain_resolver.specs.Told.{Seen, StaysTold, told_of}
-use Rattle.plain_resolver.proofs.ToldRounds.{rests_told}
+use Rattle.plain_resolver.specs.KnownNames.{Seen, StaysKnown, known_of}
+use Rattle.plain_resolver.proofs.KnownRounds.{rests_known}
 use Rattle.plain_resolver.proofs.rounds.asked.Goals as goal
 
-pub returns-in-Some-clause-told : goal.returns-in-Some-clause-told
-returns-in-Some-clause-told c =
+pub returns-in-Some-clause-known : goal.returns-in-Some-clause-known
+returns-in-Some-clause-known c =
     let rests : Rests c.args.hosts.now c.args.name.now c.in-Some.learnt =
-    subst (λ (told : Option Bool). IfSome told (Rests c.args.hosts.now c.args.name.now)) c.in-Some.is c.in_ok-learnt.ensures.rests in
+    subst (λ (found : Option Bool). IfSome found (Rests c.args.hosts.now c.args.name.now)) c.in-Some.is c.in_ok-learnt.ensures.rests in
     let few =
-    subst (λ (told : Option Bool). IfSome told (λ learnt. (rewrites : ℕ) (followed : List Labels) → HasTooMany c.args.hosts.now rewrites c.args.most followed c.args.name.now → ⊥))
+    subst (λ (found : Option Bool). IfSome found (λ learnt. (rewrites : ℕ) (followed : List Labels) → HasTooMany c.args.hosts.now rewrites c.args.most followed c.args.name.now → ⊥))
     c.in-Some.is c.in_ok-learnt.ensures.few in
-    subst (λ (seen : Seen). StaysTold c.args.hosts.now c.args.rewrites c.args.most c.args.followed.now (told_of c.args.name.now seen)) (sym c.new.ensures)
-    (rests_told c.args.hosts.now c.args.rewrites c.args.most c.args.followed.now c.args.name.now c.in-Some.learnt rests few)
+    subst (λ (seen : Seen). StaysKnown c.args.hosts.now c.args.rewrites c.args.most c.args.followed.now (known_of c.args.name.now seen)) (sym c.new.ensures)
+    (rests_known c.args.hosts.now c.args.rewrites c.args.most c.args.followed.now c.args.name.now c.in-Some.learnt rests few)

@@ -7,13 +7,13 @@ use Rattle.net_model.specs.declared.config.Server.{Server}
 use Rattle.net_model.specs.Learnt.{AfterRounds, IsRound}
 use Rattle.net_model.specs.Nearest.{server_names}
 use Rattle.plain_resolver.specs.Passed.{NoneInRounds}
-use Rattle.plain_resolver.specs.Told.{FollowedNow, FollowsOn, names_learnt, names_told}
+use Rattle.plain_resolver.specs.KnownNames.{FollowedNow, FollowsOn, names_learnt, names_known}
 use Rattle.plain_resolver.proofs.Learning.{stays, next_round, next_few, all_more}
-use Rattle.plain_resolver.proofs.ToldRounds.{all_unless_new, first_told, none_told, round_told}
+use Rattle.plain_resolver.proofs.KnownRounds.{all_unless_new, first_known, none_known, round_known}
 use Rattle.plain_resolver.proofs.rounds.learnt_at.Goals as goal
 
-pub returns-in_err-tolds-2-clause-passed : goal.returns-in_err-tolds-2-clause-passed
-returns-in_err-tolds-2-clause-passed c = λ name is.
+pub returns-in_err-known-2-clause-passed : goal.returns-in_err-known-2-clause-passed
+returns-in_err-known-2-clause-passed c = λ name is.
     let inv = c.loop-round.invariant in
     record {
       before = c.loop-round._round;
@@ -21,8 +21,8 @@ returns-in_err-tolds-2-clause-passed c = λ name is.
       none_earlier = inv.few;
       followed = c.loop-round.followed.names;
       after = inv.after;
-      first = first_told c.args.hosts.now c.args.rewrites c.args.most c.loop-round.followed.names (names_told c.loop-round.tolds) name inv.names
-          (c.in_err-tolds-2.ensures.passed name (search rules));
+      first = first_known c.args.hosts.now c.args.rewrites c.args.most c.loop-round.followed.names (names_known c.loop-round.known) name inv.names
+          (c.in_err-known-2.ensures.passed name (search rules));
     }
 
 pub returns-then-eq-clause-rounds : goal.returns-then-eq-clause-rounds
@@ -30,13 +30,13 @@ returns-then-eq-clause-rounds c =
     let config = c.args.hosts.now in
     let inv = c.loop-round.invariant in
     let followed = c.loop-round.followed.names in
-    let tolds = c.in_ok-tolds-2.tolds in
-    let told = c.in_ok-tolds-2.ensures.told in
-    let are : names_told tolds ≡ server_names config = c.in_ok-tolds-2.ensures.names ∙ inv.names in
-    let made : c.in_ok-learnt.learnt ≡ names_learnt tolds = c.in_ok-learnt.ensures ∙ ap names_learnt c.items.ensures in
+    let known = c.in_ok-known-2.known in
+    let kept = c.in_ok-known-2.ensures.known in
+    let are : names_known known ≡ server_names config = c.in_ok-known-2.ensures.names ∙ inv.names in
+    let made : c.in_ok-learnt.learnt ≡ names_learnt known = c.in_ok-learnt.ensures ∙ ap names_learnt c.items.ensures in
     let round : IsRound config c.args.rewrites followed c.in_ok-learnt.learnt =
-    subst (IsRound config c.args.rewrites followed) (sym made) (round_told config c.args.rewrites c.args.most followed tolds told are) in
-    let none = none_told config c.args.rewrites c.args.most followed tolds told are in
+    subst (IsRound config c.args.rewrites followed) (sym made) (round_known config c.args.rewrites c.args.most followed known kept are) in
+    let none = none_known config c.args.rewrites c.args.most followed known kept are in
     let same : c.in_ok-learnt.learnt ≡ followed =
     (pointwise_decides name_eq_decides c.in_ok-learnt.learnt c.followed-in-loop-round.inside.names).0 (sym c.eq.ensures ∙ c.if-eq.true)
     ∙ ap (λ (now : FollowedNow). now.names) c.followed-in-loop-round.view_is in
@@ -50,13 +50,13 @@ returns-then-eq-clause-few c =
     let config = c.args.hosts.now in
     let inv = c.loop-round.invariant in
     let followed = c.loop-round.followed.names in
-    let tolds = c.in_ok-tolds-2.tolds in
-    let told = c.in_ok-tolds-2.ensures.told in
-    let are : names_told tolds ≡ server_names config = c.in_ok-tolds-2.ensures.names ∙ inv.names in
-    let made : c.in_ok-learnt.learnt ≡ names_learnt tolds = c.in_ok-learnt.ensures ∙ ap names_learnt c.items.ensures in
+    let known = c.in_ok-known-2.known in
+    let kept = c.in_ok-known-2.ensures.known in
+    let are : names_known known ≡ server_names config = c.in_ok-known-2.ensures.names ∙ inv.names in
+    let made : c.in_ok-learnt.learnt ≡ names_learnt known = c.in_ok-learnt.ensures ∙ ap names_learnt c.items.ensures in
     let round : IsRound config c.args.rewrites followed c.in_ok-learnt.learnt =
-    subst (IsRound config c.args.rewrites followed) (sym made) (round_told config c.args.rewrites c.args.most followed tolds told are) in
-    let none = none_told config c.args.rewrites c.args.most followed tolds told are in
+    subst (IsRound config c.args.rewrites followed) (sym made) (round_known config c.args.rewrites c.args.most followed known kept are) in
+    let none = none_known config c.args.rewrites c.args.most followed known kept are in
     let same : c.in_ok-learnt.learnt ≡ followed =
     (pointwise_decides name_eq_decides c.in_ok-learnt.learnt c.followed-in-loop-round.inside.names).0 (sym c.eq.ensures ∙ c.if-eq.true)
     ∙ ap (λ (now : FollowedNow). now.names) c.followed-in-loop-round.view_is in
@@ -68,21 +68,21 @@ loop-round-preserved c =
     let config = c.args.hosts.now in
     let inv = c.loop-round.invariant in
     let followed = c.loop-round.followed.names in
-    let tolds = c.in_ok-tolds-2.tolds in
-    let told = c.in_ok-tolds-2.ensures.told in
-    let are : names_told tolds ≡ server_names config = c.in_ok-tolds-2.ensures.names ∙ inv.names in
-    let made : c.in_ok-learnt.learnt ≡ names_learnt tolds = c.in_ok-learnt.ensures ∙ ap names_learnt c.items.ensures in
+    let known = c.in_ok-known-2.known in
+    let kept = c.in_ok-known-2.ensures.known in
+    let are : names_known known ≡ server_names config = c.in_ok-known-2.ensures.names ∙ inv.names in
+    let made : c.in_ok-learnt.learnt ≡ names_learnt known = c.in_ok-learnt.ensures ∙ ap names_learnt c.items.ensures in
     let round : IsRound config c.args.rewrites followed c.in_ok-learnt.learnt =
-    subst (IsRound config c.args.rewrites followed) (sym made) (round_told config c.args.rewrites c.args.most followed tolds told are) in
-    let none = none_told config c.args.rewrites c.args.most followed tolds told are in
+    subst (IsRound config c.args.rewrites followed) (sym made) (round_known config c.args.rewrites c.args.most followed known kept are) in
+    let none = none_known config c.args.rewrites c.args.most followed known kept are in
     let next = c.in_ok-followed.followed in
     record {
       after = subst (AfterRounds config c.args.rewrites (c.loop-round._round + 1) c.args.from.now) (sym c.in_ok-followed.ensures.names)
           (next_round config c.args.rewrites c.args.from.now followed c.in_ok-learnt.learnt c.loop-round._round inv.after round);
       few = next_few config c.args.rewrites c.args.most c.args.from.now followed c.loop-round._round inv.few inv.after none;
       names = are;
-      before = all_unless_new config c.args.rewrites c.args.most followed next tolds
-          (subst (λ (names : List Labels). FollowsOn names next) (c.items-in-loop-round.ensures ∙ ap (λ (now : FollowedNow). now.names) c.followed-in-loop-round.view_is) c.in_ok-followed.ensures.follows) told;
+      before = all_unless_new config c.args.rewrites c.args.most followed next known
+          (subst (λ (names : List Labels). FollowsOn names next) (c.items-in-loop-round.ensures ∙ ap (λ (now : FollowedNow). now.names) c.followed-in-loop-round.view_is) c.in_ok-followed.ensures.follows) kept;
     }
 
 pub returns-clause-few : goal.returns-clause-few

@@ -14,7 +14,7 @@ returns-clause-few c =
     let fits : length config.tops ≤ c.args.most =
     omega (arith, c.if-tops-most.false, ap (λ (tops : List Labels). length tops) c.tops.ensures, ap (λ (x : Config). length x.tops) c.config.ensures) in
     IfOk-weaker c.learnt_at_tops.result _ _
-    (λ told so. IfSome_then told so
+    (λ found so. IfSome_then found so
     (λ learnt rests rewrites followed many. elim many [
       | inl four ↦ few_walks config rewrites name learnt rests followed types.A c.args.most fits four
       | inr six ↦ few_walks config rewrites name learnt rests followed types.Aaaa c.args.most fits six

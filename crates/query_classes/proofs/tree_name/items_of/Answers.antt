@@ -14,11 +14,11 @@ loop-one-init g c = rw c.into_iter-one-iterator.ensures.into_iter_gives.0 record
 
 pub of-requires : goal.of-requires
 of-requires g c =
-    subst (All (IsTreeName g.G.OnGround.ground g.G.OnGround.told c.args.all_told)) c.in-Some.ensures.steps c.loop-one.invariant.are 0 c.in-Some.one (omega arith)
+    subst (All (IsTreeName g.G.OnGround.ground g.G.OnGround.holds c.args.all_hold)) c.in-Some.ensures.steps c.loop-one.invariant.are 0 c.in-Some.one (omega arith)
 
 pub loop-one-preserved : goal.loop-one-preserved
 loop-one-preserved g c =
-    let P = IsTreeName g.G.OnGround.ground g.G.OnGround.told c.args.all_told in
+    let P = IsTreeName g.G.OnGround.ground g.G.OnGround.holds c.args.all_hold in
     let before = c.loop-one.items.items in
     let left = c.next.new.self in
     let put = c.in_ok-push.ensures.items ∙ ap (λ (name : Labels). before ++ name ∷ []) c.of.ensures in

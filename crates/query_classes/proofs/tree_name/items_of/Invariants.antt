@@ -6,5 +6,5 @@ use Rattle.query_classes.proofs.tree_name.items_of.Given as goal
 abbrev pub invariant-loop-one : goal.invariant-loop-one
 invariant-loop-one g l = record {
   items : l.items.items ++ map (λ one. one.name) l.one-iterator ≡ map (λ one. one.name) l.fn.found;
-  are : All (IsTreeName g.G.OnGround.ground g.G.OnGround.told l.all_told) l.one-iterator;
+  are : All (IsTreeName g.G.OnGround.ground g.G.OnGround.holds l.all_hold) l.one-iterator;
 }

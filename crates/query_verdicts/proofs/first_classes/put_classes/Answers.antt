@@ -10,15 +10,15 @@ use Rattle.query_verdicts.proofs.first_classes.put_classes.Goals as goal
 pub returns-in-Some : goal.returns-in-Some
 returns-in-Some c =
     let name = c.args.name in
-    let told = c.args.told.now in
+    let verdict = c.args.verdict.now in
     let old = c.args.found.now in
     let middle = c.put_class.new.self in
     let new = c.put_class-in-Some.new.self in
-    let exact = found_in (Exact name) told.exact in
-    let below = found_below name told.below in
+    let exact = found_in (Exact name) verdict.exact in
+    let below = found_below name verdict.below in
     on_ok_weaker c.put_class-in-Some.result
     (λ put. subst (λ (l : List ClassFault). KeepsFirsts l new) (append_assoc old exact below)
     (kept_on (old ++ exact) below middle new
-    (subst (λ (n : Labels). KeepsFirsts (old ++ found_in (Exact n) told.exact) middle) c.in_ok-copy.ensures c.in_ok-put_class.ensures)
+    (subst (λ (n : Labels). KeepsFirsts (old ++ found_in (Exact n) verdict.exact) middle) c.in_ok-copy.ensures c.in_ok-put_class.ensures)
     (subst (λ (l : List ClassFault). KeepsFirsts (middle ++ l) new) (sym (ap (found_below name) c.in-Some.is)) put)))
     c.put_class-in-Some.ensures

@@ -19,5 +19,5 @@ returns-clause-few c =
       div-mul-le_self queries.states 12,
     ) in
     IfOk-weaker c.learnt_at_tops.result _ _
-    (λ told so. IfSome_then told so (λ learnt rests. few_pairs queries.trees queries.rewrites c.args.name.now learnt rests queries.states fits))
+    (λ addresses so. IfSome_then addresses so (λ learnt rests. few_pairs queries.trees queries.rewrites c.args.name.now learnt rests queries.states fits))
     c.learnt_at_tops.ensures

@@ -9,7 +9,7 @@ use Rattle.straight_walks.specs.Faulty.{flags_by}
 use Rattle.straight_walks.specs.Searching.{IsReferral}
 use Rattle.straight_walks.specs.declared.faulty.ReferralFlags.{ReferralFlags}
 use Rattle.straight_walks.specs.declared.name_server.Referral.TheVariants as referral
-use Rattle.straight_walks.proofs.ToldFlags.{are_flags, ends_lame, ends_unhosted, goes_on_to, is_independent, none_independent}
+use Rattle.straight_walks.proofs.FlagsByTable.{are_flags, ends_lame, ends_unhosted, goes_on_to, is_independent, none_independent}
 use Rattle.straight_walks.proofs.name_server.referral_to.Goals as goal
 
 pub returns-in-Goes : goal.returns-in-Goes
@@ -22,8 +22,8 @@ returns-in-Goes c =
     subst (λ (setting : Setting). IsLead setting to query (lead.Goes c.in-Goes.field-0)) c.following_least.ensures
     (subst (IsLead c.following_least.result to query) c.in-Goes.is c.leads.ensures) in
     subst (λ (flags : ReferralFlags). IsReferral config deps query to (referral.GoesOn flags)) (sym c.of.ensures)
-    (goes_on_to config deps query to 0 c.in-Goes.field-0 (flags_by c.args.told false)
-    (are_flags config deps to c.args.told c.requires.told (is_independent config deps query to 0 leads.0) false) leads)
+    (goes_on_to config deps query to 0 c.in-Goes.field-0 (flags_by c.args.flags false)
+    (are_flags config deps to c.args.flags c.requires.flags (is_independent config deps query to 0 leads.0) false) leads)
 
 pub returns-in-Unhosted : goal.returns-in-Unhosted
 returns-in-Unhosted c =
@@ -35,8 +35,8 @@ returns-in-Unhosted c =
     ap (λ (setting : Setting). is_configured setting.config to.ns) (sym c.following_least.ensures)
     ∙ subst (IsLead c.following_least.result to query) c.in-Unhosted.is c.leads.ensures in
     subst (λ (flags : ReferralFlags). IsReferral config deps query to (referral.Ends flags)) (sym c.of-in-Unhosted.ensures)
-    (ends_unhosted config deps query to (flags_by c.args.told false)
-    (are_flags config deps to c.args.told c.requires.told (none_independent config deps query to leads) false) leads)
+    (ends_unhosted config deps query to (flags_by c.args.flags false)
+    (are_flags config deps to c.args.flags c.requires.flags (none_independent config deps query to leads) false) leads)
 
 pub returns-in-Lame : goal.returns-in-Lame
 returns-in-Lame c =
@@ -48,5 +48,5 @@ returns-in-Lame c =
     subst (λ (setting : Setting). IsLead setting to query lead.Lame) c.following_least.ensures
     (subst (IsLead c.following_least.result to query) c.in-Lame.is c.leads.ensures) in
     subst (λ (flags : ReferralFlags). IsReferral config deps query to (referral.Ends flags)) (sym c.of-in-Lame.ensures)
-    (ends_lame config deps query to 0 c.args.told
-    (are_flags config deps to c.args.told c.requires.told (is_independent config deps query to 0 leads.0) true) leads)
+    (ends_lame config deps query to 0 c.args.flags
+    (are_flags config deps to c.args.flags c.requires.flags (is_independent config deps query to 0 leads.0) true) leads)

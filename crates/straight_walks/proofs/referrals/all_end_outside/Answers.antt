@@ -5,10 +5,10 @@ use Rattle.dns_data.specs.Name.{Labels}
 use Rattle.dns_data.proofs.Names.{all_push}
 use Rattle.net_model.specs.Zone.{ns_names}
 use Rattle.zone_tree.specs.Tree.{name_of}
-use Rattle.zone_lookup.specs.CutTable.{IsToldOf, cut_to, referrals_at, told_in}
+use Rattle.zone_lookup.specs.CutTable.{AreCutFlags, cut_to, referrals_at, flags_in_table}
 use Rattle.straight_walks.specs.Searching.{EndsOutside}
 use Rattle.straight_walks.proofs.GoingOn.{one_name_more, referral_at, some_named}
-use Rattle.straight_walks.proofs.ToldFlags.{told_at}
+use Rattle.straight_walks.proofs.FlagsByTable.{flags_of_each}
 use Rattle.straight_walks.proofs.Unhosted.{same_glue, unhosted_ends}
 use Rattle.straight_walks.proofs.referrals.all_end_outside.Goals as goal
 
@@ -29,13 +29,13 @@ loop-ns-preserved c =
     let servers = c.name_servers-servers.result.now in
     let number = c.loop-ns.ns-index in
     let item = c.ns-item.result in
-    let nothing : told_in c.args.asked.table.now server zone.origin c.args.from.cut ≡ None =
-    sym c.told-told.ensures.told ∙ none_mapped _ c.told-told.result (sym c.is_some.ensures ∙ c.if-is_some.false) in
-    let told : IsToldOf config sets (referrals_at server zone cut) None =
-    subst (IsToldOf config sets (referrals_at server zone cut)) nothing
-    (c.requires.table.each server tree c.args.from.cut c.requires.held c.told-told.ensures.whole c.requires.node) in
+    let nothing : flags_in_table c.args.asked.table.now server zone.origin c.args.from.cut ≡ None =
+    sym c.flags-flags.ensures.flags ∙ none_mapped _ c.flags-flags.result (sym c.is_some.ensures ∙ c.if-is_some.false) in
+    let told : AreCutFlags config sets (referrals_at server zone cut) None =
+    subst (AreCutFlags config sets (referrals_at server zone cut)) nothing
+    (c.requires.table.each server tree c.args.from.cut c.requires.held c.flags-flags.ensures.whole c.requires.node) in
     let at = referral_at server zone cut servers (ns_names zone cut) c.name_servers-servers.ensures number item c.loop-ns-test.true c.ns-item.is in
-    let glued = sym (told_at config sets (referrals_at server zone cut) None told number (cut_to server zone cut item.now) at.0 at.1).no_glue in
+    let glued = sym (flags_of_each config sets (referrals_at server zone cut) None told number (cut_to server zone cut item.now) at.0 at.1).no_glue in
     let unhosted = sym c.host.ensures ∙ none_mapped _ c.host.result (sym c.is_some-in-loop-ns.ensures ∙ c.if-is_some-2.false) in
     subst (AllByRecursion end) (sym (one_name_more servers number item c.loop-ns-test.true c.ns-item.is))
     (all_push end (map (λ (ns : Bor Labels). ns.now) (take number servers)) item.now c.loop-ns.invariant

@@ -5,13 +5,13 @@ use Rattle.net_model.specs.Zone.{ns_names}
 use Rattle.net_model.specs.declared.config.Zone.{Zone}
 use Rattle.net_model.specs.declared.place.Cut.{Cut}
 use Rattle.zone_tree.specs.Tree.{name_of}
-use Rattle.zone_lookup.specs.CutTable.{IsToldOf, cut_to, referrals_at, told_in}
+use Rattle.zone_lookup.specs.CutTable.{AreCutFlags, cut_to, referrals_at, flags_in_table}
 use Rattle.zone_lookup.specs.declared.cut_flags.CutFlags.{CutFlags}
-use Rattle.straight_walks.specs.Faulty.{AreToldOf, flags_at}
+use Rattle.straight_walks.specs.Faulty.{AreFlagsBySides, flags_at}
 use Rattle.straight_walks.specs.Searching.{AreReferrals, IsFaultyPut, IsReferral, Known, state_at, queued_state}
 use Rattle.straight_walks.specs.declared.name_server.Referral.TheVariants as referral
 use Rattle.straight_walks.proofs.GoingOn.{no_referrals, one_name_more, one_that_ends, one_to_go_to, referral_at}
-use Rattle.straight_walks.proofs.ToldFlags.{told_at}
+use Rattle.straight_walks.proofs.FlagsByTable.{flags_of_each}
 use Rattle.straight_walks.proofs.referrals.queue_referrals.Goals as goal
 use Rattle.straight_walks.proofs.referrals.queue_referrals.Goals.{in-Ends+in_ok-put_faulty-in-Ends, in-GoesOn+in_ok-put-in-GoesOn+in_ok-put_faulty-in-GoesOn}
 
@@ -25,8 +25,8 @@ referral_to-requires-clause-inside c =
     subst (λ (zone : Zone). is_prefix zone.origin c.name-owner.result.now ≡ true) (sym c.zone.ensures.zone)
     (subst (λ (name : Labels). is_prefix c.args.from.tree.now.zone.origin name ≡ true) (sym c.name-owner.ensures) c.requires.inside)
 
-pub referral_to-requires-clause-told : goal.referral_to-requires-clause-told
-referral_to-requires-clause-told c =
+pub referral_to-requires-clause-flags : goal.referral_to-requires-clause-flags
+referral_to-requires-clause-flags c =
     let config = c.args.asked.hosts.now in
     let deps = c.args.asked.sets.now in
     let server = c.args.from.server.now in
@@ -36,12 +36,12 @@ referral_to-requires-clause-told c =
     let item = c.index-servers-number.result in
     let lent : cut_to server c.zone.result.now c.name-owner.result.now item.now ≡ cut_to server zone cut item.now =
     ap (λ (z : Zone). cut_to server z c.name-owner.result.now item.now) c.zone.ensures.zone ∙ ap (λ (name : Labels). cut_to server zone name item.now) c.name-owner.ensures in
-    let shown = told_in c.args.asked.table.now server zone.origin c.args.from.cut in
-    let told : IsToldOf config deps (referrals_at server zone cut) shown = c.requires.table.each server tree c.args.from.cut c.requires.held c.told-shown.ensures.whole c.requires.node in
+    let shown = flags_in_table c.args.asked.table.now server zone.origin c.args.from.cut in
+    let told : AreCutFlags config deps (referrals_at server zone cut) shown = c.requires.table.each server tree c.args.from.cut c.requires.held c.flags-shown.ensures.whole c.requires.node in
     let at = referral_at server zone cut c.name_servers-servers.result.now (ns_names zone cut) c.name_servers-servers.ensures c.loop-number.number item c.loop-number-test.true c.index-servers-number.is in
-    subst (λ (flags : CutFlags). AreToldOf config (cut_to server c.zone.result.now c.name-owner.result.now item.now) flags) (sym (c.flags_at.ensures ∙ ap (λ (s : Option (List CutFlags)). flags_at s c.loop-number.number) c.told-shown.ensures.told))
-    (subst (λ (to : Cut). AreToldOf config to (flags_at shown c.loop-number.number)) (sym lent)
-    (told_at config deps (referrals_at server zone cut) shown told c.loop-number.number (cut_to server zone cut item.now) at.0 at.1))
+    subst (λ (flags : CutFlags). AreFlagsBySides config (cut_to server c.zone.result.now c.name-owner.result.now item.now) flags) (sym (c.flags_at.ensures ∙ ap (λ (s : Option (List CutFlags)). flags_at s c.loop-number.number) c.flags-shown.ensures.flags))
+    (subst (λ (to : Cut). AreFlagsBySides config to (flags_at shown c.loop-number.number)) (sym lent)
+    (flags_of_each config deps (referrals_at server zone cut) shown told c.loop-number.number (cut_to server zone cut item.now) at.0 at.1))
 
 pub loop-number-preserved : goal.loop-number-preserved
 loop-number-preserved c =

@@ -4,7 +4,7 @@ use Rattle.std.specs.List.Sorted.{IsStrictlySortedBy}
 use Rattle.dns_data.specs.Name.{Labels, name_cmp}
 use Rattle.zone_tree.specs.Tree.{ZoneTree}
 use Rattle.zone_lookup.specs.CutTable.{IsZoneRow, ZoneRow}
-use Rattle.zone_lookup.proofs.CutTables.{beside_names, host_told}
+use Rattle.zone_lookup.proofs.CutTables.{beside_names, row_of_host}
 use Rattle.zone_lookup.proofs.cut_table.host_row.Goals as goal
 
 pub invariant_of-result : goal.invariant_of-result
@@ -15,6 +15,6 @@ invariant_of-result c =
 
 pub returns : goal.returns
 returns c =
-    host_told c.args.hosts.now c.args.sets.now c.args.host.now c.in_order.result.now
+    row_of_host c.args.hosts.now c.args.sets.now c.args.host.now c.in_order.result.now
     (record { server = c.name-2.result.now; zones = c.in_ok-zones.zones.items }) c.name-2.ensures c.in_order.ensures
     (subst (λ (n : Labels). AllZip (IsZoneRow c.args.hosts.now c.args.sets.now n) c.in_order.result.now c.in_ok-zones.zones.items) c.name.ensures c.in_ok-zones.ensures)

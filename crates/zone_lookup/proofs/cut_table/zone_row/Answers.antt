@@ -3,7 +3,7 @@ use Rattle.dns_data.specs.Name.{Labels}
 use Rattle.zone_tree.specs.Tree.{name_of}
 use Rattle.zone_lookup.specs.CutFlags.{flags_of}
 use Rattle.zone_lookup.specs.CutTable.{referrals_at}
-use Rattle.zone_lookup.proofs.CutTables.{IsRowUpTo, told_more}
+use Rattle.zone_lookup.proofs.CutTables.{IsRowUpTo, flags_more}
 use Rattle.zone_lookup.proofs.cut_table.zone_row.Goals.{in-Some+in_ok-flags+in_ok-put_unless_quiet, in_default}
 use Rattle.zone_lookup.proofs.cut_table.zone_row.Goals as goal
 
@@ -16,7 +16,7 @@ loop-place-preserved c = elim c.match-node_in.branch [
       let flags : w.in_ok-flags.flags ≡ map (flags_of c.args.hosts.now c.args.sets.now) (referrals_at c.args.server.now tree.zone (name_of tree place)) =
       w.in_ok-flags.ensures held ∙ ap (λ (n : ℕ). map (flags_of c.args.hosts.now c.args.sets.now) (referrals_at c.args.server.now tree.zone (name_of tree n))) at in
       subst (λ m. IsRowUpTo c.args.hosts.now c.args.sets.now c.args.server.now tree (place + 1) m.entries) (sym w.cuts-is)
-      (told_more c.args.hosts.now c.args.sets.now c.args.server.now tree place w.in_ok-flags.flags c.loop-place.cuts.entries w.put_unless_quiet.new.cuts.entries
+      (flags_more c.args.hosts.now c.args.sets.now c.args.server.now tree place w.in_ok-flags.flags c.loop-place.cuts.entries w.put_unless_quiet.new.cuts.entries
       (c.loop-place.invariant held) w.in_ok-put_unless_quiet.ensures flags))
   | in_default w ↦ λ held. (
       let below : c.loop-place.place < length c.args.tree.now.names =

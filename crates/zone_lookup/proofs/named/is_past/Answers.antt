@@ -1,4 +1,4 @@
-use Rattle.std.proofs.Common.{◌≡◌, Ordering, Greater, subst, arith}
+use Rattle.std.proofs.Common.{◌≡◌, Ordering, subst, arith}
 use Rattle.std.specs.List.{HoldsAt}
 use Rattle.dns_data.specs.Name.{name_cmp}
 use Rattle.zone_lookup.proofs.named.is_past.Goals as goal

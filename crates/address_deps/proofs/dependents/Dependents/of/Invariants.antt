@@ -3,4 +3,4 @@ use Rattle.address_deps.proofs.dependents.Dependents.of.Given as goal
 
 -- those of the graphs so far
 abbrev pub invariant-loop-place : goal.invariant-loop-place
-invariant-loop-place l = AreDependents l.told l.place l.dependents.places
+invariant-loop-place l = AreDependents l.addresses l.place l.dependents.places

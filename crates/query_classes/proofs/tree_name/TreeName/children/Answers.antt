@@ -2,9 +2,9 @@ use Rattle.std.proofs.Common.{sym, subst}
 use Rattle.std.proofs.lemmas.Result.{IfOk-weaker}
 use Rattle.dns_data.specs.Name.{Labels}
 use Rattle.query_classes.specs.Children.{AreChildren}
-use Rattle.query_classes.specs.TreeNames.{IsToldBelow}
+use Rattle.query_classes.specs.TreeNames.{HoldsBelow}
 use Rattle.query_classes.proofs.SameGrounds.{children_same}
-use Rattle.query_classes.proofs.ToldBelow.{children_told}
+use Rattle.query_classes.proofs.BelowChildren.{children_hold}
 use Rattle.query_classes.proofs.tree_name.TreeName.children.Goals as goal
 
 pub children-requires : goal.children-requires
@@ -12,8 +12,8 @@ children-requires g c = c.self.invariant.live c.args.graph.now c.requires.base
 
 pub items_of-requires : goal.items_of-requires
 items_of-requires g c =
-    children_told g.G.OnGround.ground c.args.graph.now c.requires.base g.G.OnGround.told c.args.all_told c.self.inside.found.name
-    (λ said. subst (IsToldBelow g.G.OnGround.told) (sym c.self.view_is) (c.requires.told said)) c.in_ok-found.found c.in_ok-found.ensures.names c.in_ok-found.ensures.live
+    children_hold g.G.OnGround.ground c.args.graph.now c.requires.base g.G.OnGround.holds c.args.all_hold c.self.inside.found.name
+    (λ said. subst (HoldsBelow g.G.OnGround.holds) (sym c.self.view_is) (c.requires.hold said)) c.in_ok-found.found c.in_ok-found.ensures.names c.in_ok-found.ensures.live
 
 pub returns : goal.returns
 returns g c =

@@ -6,5 +6,5 @@ pub of-requires-2 : goal.of-requires-2
 of-requires-2 g c =
     record {
       live = live_in_each g.G.OnGround.ground c.args.graph.now c.requires c.in_ok-found.found.name c.in_ok-found.found.live c.in_ok-found.ensures.live;
-      told_below = λ said. absurd (true≢false (sym said));
+      below = λ said. absurd (true≢false (sym said));
     }

@@ -2,7 +2,7 @@ use Rattle.std.proofs.Common.{Bool, true, false, subst}
 use Rattle.query_classes.specs.Children.{HasBelow}
 use Rattle.query_classes.proofs.SameGrounds.{named_same, same_back}
 use Rattle.query_verdicts.specs.Verdict.{IsClassVerdict}
-use Rattle.query_verdicts.proofs.QuietBelow.{told_below}
+use Rattle.query_verdicts.proofs.QuietBelow.{verdict_below}
 use Rattle.query_verdicts.proofs.name_judge.NameJudge.below_with.Goals as goal
 
 pub has_below-requires-clause-live : goal.has_below-requires-clause-live
@@ -21,7 +21,7 @@ returns-then-branch g c =
     let names = c.self.inside.names in
     let above = c.args.above.now.name in
     let of = c.self.invariant in
-    told_below subject.ground subject.config of.covering.covers (IsClassVerdict subject.config subject.rewrites states) c.args.verdict above c.requires.in_tree c.requires.below
+    verdict_below subject.ground subject.config of.covering.covers (IsClassVerdict subject.config subject.rewrites states) c.args.verdict above c.requires.in_tree c.requires.below
     names of.names_are true (subst (λ (some : Bool). HasBelow names above some) c.if-branch.true c.in_ok-has_below.ensures)
 
 pub returns-else-branch : goal.returns-else-branch
@@ -31,5 +31,5 @@ returns-else-branch g c =
     let names = c.self.inside.names in
     let above = c.args.above.now.name in
     let of = c.self.invariant in
-    told_below subject.ground subject.config of.covering.covers (IsClassVerdict subject.config subject.rewrites states) c.args.verdict above c.requires.in_tree c.requires.below
+    verdict_below subject.ground subject.config of.covering.covers (IsClassVerdict subject.config subject.rewrites states) c.args.verdict above c.requires.in_tree c.requires.below
     names of.names_are false (subst (λ (some : Bool). HasBelow names above some) c.if-branch.false c.in_ok-has_below.ensures)

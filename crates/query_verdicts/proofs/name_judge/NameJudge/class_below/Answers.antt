@@ -20,4 +20,4 @@ returns-in-Some g c =
     let subject = g.S.OnSubject.subject in
     let query = c.args.query.now in
     let are = subst (λ (found : Option StraightEnds). IfSome found (AreStraightEnds subject.config subject.rewrites g.S.OnSubject.states query)) c.in-Some.is c.in_ok-ends.ensures in
-    IfOk-weaker c.told.result _ _ (λ verdict so. so query are.told) c.told.ensures
+    IfOk-weaker c.verdict_by_ends.result _ _ (λ verdict so. so query are.verdict) c.verdict_by_ends.ensures

@@ -1,7 +1,7 @@
 use Rattle.std.proofs.Common.{sym, subst}
 use Rattle.dns_data.specs.Name.{Labels}
 use Rattle.query_classes.specs.Children.{IsInTree}
-use Rattle.query_classes.specs.TreeNames.{IsToldBelow}
+use Rattle.query_classes.specs.TreeNames.{HoldsBelow}
 use Rattle.query_verdicts.specs.Verdict.{IsNameVerdict, IsQuiet}
 use Rattle.query_verdicts.proofs.name_judge.NameJudge.judge_searched.Goals as goal
 
@@ -24,4 +24,4 @@ with_children-requires-clause-verdict g c =
 
 pub with_children-requires-clause-quiet : goal.with_children-requires-clause-quiet
 with_children-requires-clause-quiet g c = λ said.
-    subst (IsToldBelow (IsQuiet g.S.OnSubject.subject g.S.OnSubject.states)) c.live_name-name.ensures.name (c.all_quiet-all_quiet.ensures said)
+    subst (HoldsBelow (IsQuiet g.S.OnSubject.subject g.S.OnSubject.states)) c.live_name-name.ensures.name (c.all_quiet-all_quiet.ensures said)

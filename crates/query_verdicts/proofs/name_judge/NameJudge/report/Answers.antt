@@ -4,8 +4,8 @@ use Rattle.query_verdicts.proofs.name_judge.NameJudge.report.Goals as goal
 
 pub returns-clause-report : goal.returns-clause-report
 returns-clause-report g c =
-    let told = c.in_ok-told.ensures.report in
-    rw (told.keeps.classes, told.keeps.names, told.keeps.rewrites, told.keeps.entries ∙ as_they_are told.report.entries) told.is_report
+    let made = c.in_ok-made.ensures.report in
+    rw (made.keeps.classes, made.keeps.names, made.keeps.rewrites, made.keeps.entries ∙ as_they_are made.report.entries) made.is_report
   where
     as_they_are : (entries : List ReportEntry) → map (λ (entry : ReportEntry). entry) entries ≡ entries
     as_they_are [] = refl

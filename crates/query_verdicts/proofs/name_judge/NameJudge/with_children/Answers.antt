@@ -7,8 +7,8 @@ use Rattle.query_verdicts.proofs.name_judge.NameJudge.with_children.Goals as goa
 pub children-requires-clause-base : goal.children-requires-clause-base
 children-requires-clause-base g c = c.self.invariant.names_are
 
-pub children-requires-clause-told : goal.children-requires-clause-told
-children-requires-clause-told g c = c.requires.quiet
+pub children-requires-clause-hold : goal.children-requires-clause-hold
+children-requires-clause-hold g c = c.requires.quiet
 
 pub returns-clause-verdict : goal.returns-clause-verdict
 returns-clause-verdict g c =

@@ -20,8 +20,8 @@ judge_name-requires-clause-in_tree g c =
 pub children-requires-clause-base : goal.children-requires-clause-base
 children-requires-clause-base g c = c.self.invariant.names_are
 
-pub children-requires-clause-told : goal.children-requires-clause-told
-children-requires-clause-told g c = λ said. absurd (true≢false (sym said))
+pub children-requires-clause-hold : goal.children-requires-clause-hold
+children-requires-clause-hold g c = λ said. absurd (true≢false (sym said))
 
 pub returns-clause-verdict : goal.returns-clause-verdict
 returns-clause-verdict g c =

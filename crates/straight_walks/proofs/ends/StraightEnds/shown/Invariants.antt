@@ -4,6 +4,6 @@ use Rattle.graph_form.specs.Branches.{with_type}
 use Rattle.straight_walks.specs.Faulty.{faults_at}
 use Rattle.straight_walks.proofs.ends.StraightEnds.shown.Given as goal
 
--- the faults of the referrals so far are told
+-- the faults of the referrals so far are put
 abbrev pub invariant-loop-one : goal.invariant-loop-one
-invariant-loop-one l = l.told ≡ with_type types.A (faults_at l.query (take l.one-index l.one-items))
+invariant-loop-one l = l.seen ≡ with_type types.A (faults_at l.query (take l.one-index l.one-items))
