@@ -64,6 +64,7 @@ impl<'a> ScopeGraphs<'a> {
     ) -> Result<Judge<'a, N>, NoMemory>
         requires subject { scoped self.config self.rewrites scope.now ≡ N.subject }
         requires states { self.states ≡ N.states }
+        ensures config { IfOk result (λ judge. judge ≡ self.entry.config) }
     {
         // The labels are read, so that the length of the name is known here.
         let _ = scope.labels();

@@ -9,16 +9,15 @@ ghost use Rattle.query_classes.proofs.TreeItems as items;
 ghost use Rattle.query_verdicts.specs.Passed.{NonePasses, IsReportFault};
 ghost use Rattle.verdict_book.specs.Lists.{IsWholeTree};
 
-use base_names::{base_graph, joint_base_graph};
+use crate::scope_graphs::ScopeGraphs;
 use class_judge::{Judge, Naming, OfNaming};
 use dns_data::{List, Name, NoMemory};
 use graph_form::Report;
 use net_model::Config;
 use query_classes::TreeName;
-use query_verdicts::{FiledVerdict, JudgeFault, QueryGraphs, SubjectGround};
+use query_verdicts::{FiledVerdict, JudgeFault, SubjectGround};
 use std::alloc::Global;
 use std::marker::Model;
-use std::slice;
 use verdict_book::{Filed, JudgeShare, Judged, Work};
 
 /// A judge of the scope of a name in a configuration: of the names at or below it that the configuration's base names
@@ -100,14 +99,8 @@ impl<'a, N: Naming> ScopeJudge<'a, N> {
         requires states { states ≡ N.states }
         ensures config { IfOk result (λ judge. judge ≡ config.now) }
     {
-        // The labels are read, so that the length of the name is known here.
-        let _ = scope.labels();
-        let first = scope.copy(alloc)?;
-        let graphs = QueryGraphs::prepare(alloc, config, rewrites, states)?;
-        let hosts = graphs.hosts();
-        let own = base_graph(alloc, hosts)?;
-        let names = joint_base_graph(alloc, slice::from_ref(&hosts), &[scope])?;
-        let judge = Judge::new(alloc, graphs, names, Some(own), first);
+        let graphs = ScopeGraphs::prepare(alloc, config, rewrites, states)?;
+        let judge = graphs.into_judge(alloc, scope)?;
         Ok(ScopeJudge { judge })
     }
 

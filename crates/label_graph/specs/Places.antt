@@ -1,7 +1,9 @@
 -- For the code alone, no public clause cites it: what a live set keeps.
-use Rattle.std.specs.Prelude.{ℕ, List, [], ◌∷◌, Option, Some, None}
+use Rattle.std.specs.Prelude.{ℕ, List, [], ◌∷◌}
+use Rattle.label_graph.specs.declared.live.LiveForm.{LiveForm}
+use Rattle.label_graph.specs.declared.live.LiveForm.TheVariants.{One, Listed}
 
--- the places that are listed, or the one that stands in the value where none are
-abbrev pub places_in : {X : Type 0} → ℕ → Option X → (X → List ℕ) → List ℕ
-places_in one None items = one ∷ []
-places_in one (Some listed) items = items listed
+-- the one place, or those that are listed
+abbrev pub places_in : LiveForm → List ℕ
+places_in (One place) = place ∷ []
+places_in (Listed listed) = listed.value

@@ -13,7 +13,8 @@
 //! plays a part, and one of one place takes no memory of its own; a label more costs a binary search among the names
 //! behind each place, and no more where none of the names found is redirected. Else each place that is found is compared
 //! with those found before it, so a live set of n places costs n times n. The labels below one place are listed in order
-//! without a search for a label or a sort, each with its own live set; those below several are sorted, and looked for.
+//! without a search for a label or a sort, each with its own live set, by a list of their places that is made first and let
+//! go of then; those below several are sorted, and looked for.
 #![tactic(auto)]
 
 mod base;

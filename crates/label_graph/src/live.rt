@@ -8,11 +8,17 @@ use std::marker::Model;
 use std::slice::from_ref;
 
 /// Some base names of a graph, each once. Contracts see their places in the graph. One takes no memory of its own: it
-/// stands in the value, where nothing is listed.
+/// stands in the value.
 #[derive(Debug, Drop)]
 pub struct LiveSet {
-    one: usize,
-    listed: Option<Box<List<usize>>>,
+    form: LiveForm,
+}
+
+/// One place, or the places of a list.
+#[derive(Debug, Drop)]
+enum LiveForm {
+    One(usize),
+    Listed(Box<List<usize>>),
 }
 
 impl Model for LiveSet {
@@ -21,7 +27,7 @@ impl Model for LiveSet {
 
     ghost Value = { List ℕ };
 
-    ghost view = { λ live. places_in live.one live.listed (λ listed. listed.value) };
+    ghost view = { λ live. places_in live.form };
 }
 
 impl LiveSet {
@@ -36,9 +42,9 @@ impl LiveSet {
     pub fn copy(&self, alloc: Global) -> Result<LiveSet, NoMemory>
         ensures { IfOk result (λ copy. copy ≡ self.now) }
     {
-        match &self.listed {
-            Some(listed) => LiveSet::listed(alloc, listed.items().to_vec(alloc)?),
-            None => Ok(LiveSet::one(self.one)),
+        match &self.form {
+            LiveForm::One(place) => Ok(LiveSet::one(*place)),
+            LiveForm::Listed(listed) => LiveSet::listed(alloc, listed.items().to_vec(alloc)?),
         }
     }
 
@@ -46,9 +52,9 @@ impl LiveSet {
     pub(crate) fn places(&self) -> &[usize]
         ensures { result.now ≡ self.now }
     {
-        match &self.listed {
-            Some(listed) => listed.items(),
-            None => from_ref(&self.one),
+        match &self.form {
+            LiveForm::One(place) => from_ref(place),
+            LiveForm::Listed(listed) => listed.items(),
         }
     }
 
@@ -57,8 +63,7 @@ impl LiveSet {
         ensures { result ≡ place ∷ [] }
     {
         LiveSet {
-            one: place,
-            listed: None,
+            form: LiveForm::One(place),
         }
     }
 
@@ -68,8 +73,7 @@ impl LiveSet {
     {
         let listed = Box::new(alloc, List::from_vec(places))?;
         Ok(LiveSet {
-            one: 0,
-            listed: Some(listed),
+            form: LiveForm::Listed(listed),
         })
     }
 }

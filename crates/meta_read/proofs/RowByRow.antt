@@ -54,15 +54,18 @@ abbrev pub data_before : List Data → Items → Items
 data_before [] rest = rest
 data_before (value ∷ values) rest = item value (data_before values rest)
 
+-- before no others they are the values themselves
 pub data_before-none : (values : List Data) → data_before values no_items ≡ items_of values
 data_before-none [] = refl
 data_before-none (value ∷ values) = ap (item value) (data_before-none values)
 
-data_before-push : (values : List Data) (datum : Data) (rest : Items) → data_before values (item datum rest) ≡ data_before (values ++ datum ∷ []) rest
+data_before-push : (values : List Data) (datum : Data) (rest : Items)
+    → data_before values (item datum rest) ≡ data_before (values ++ datum ∷ []) rest
 data_before-push [] datum rest = refl
 data_before-push (value ∷ values) datum rest = ap (item value) (data_before-push values datum rest)
 
-each-push : (number : ℕ) (values : List Data) (rows : List MetaRow) (datum : Data) (row : MetaRow) → each read_row number values ≡ Ok rows → read_row (number + length values) datum ≡ Ok row
+each-push : (number : ℕ) (values : List Data) (rows : List MetaRow) (datum : Data) (row : MetaRow)
+    → each read_row number values ≡ Ok rows → read_row (number + length values) datum ≡ Ok row
     → each read_row number (values ++ datum ∷ []) ≡ Ok (rows ++ row ∷ [])
 each-push number [] rows datum row so last =
     let none : [] ≡ rows = cc in
@@ -82,7 +85,9 @@ each-push number (value ∷ values) rows datum row so last =
     by_first : ((more : List MetaRow) → each read_row (number + 1) values ≡ Ok more → each read_row (number + 1) (values ++ datum ∷ []) ≡ Ok (more ++ row ∷ []))
         → (first : Result MetaRow MetaFault) → read_row number value ≡ first → (first >>= (λ one. each read_row (number + 1) values >>= (λ rest. Ok (one ∷ rest)))) ≡ Ok rows
         → (read_row number value >>= (λ one. each read_row (number + 1) (values ++ datum ∷ []) >>= (λ rest. Ok (one ∷ rest)))) ≡ Ok (rows ++ row ∷ [])
-    by_first behind (Ok one) here is = ap (λ said. said >>= (λ first. each read_row (number + 1) (values ++ datum ∷ []) >>= (λ rest. Ok (first ∷ rest)))) here ∙ by_rest behind one (each read_row (number + 1) values) refl is
+    by_first behind (Ok one) here is =
+        ap (λ said. said >>= (λ first. each read_row (number + 1) (values ++ datum ∷ []) >>= (λ rest. Ok (first ∷ rest)))) here
+        ∙ by_rest behind one (each read_row (number + 1) values) refl is
     by_first behind (Err fault) here is = absurd cc
 
 -- the rows so far, of a list that begins at the first tokens, and the tokens that are left
@@ -96,6 +101,7 @@ pub record RowsSoFar (start left : List Token) (number : ℕ) (rows : List MetaR
   pub are_rows : each read_row 1 values ≡ Ok rows
   pub many : length values ≡ number
 
+-- before the first row
 pub no_row : (start : List Token) → RowsSoFar start start 0 []
 no_row start = record {
   turns = length start;
@@ -111,8 +117,11 @@ no_row start = record {
   by None = refl
   by (Some p) = refl
 
-pub one_more_row : (start left after : List Token) (number : ℕ) (rows : List MetaRow) (one : Json) (datum : Data) (row : MetaRow) → RowsSoFar start left number rows → after_end_array left ≡ None
-    → value 125 left ≡ Some (one, after) → of_json one ≡ Some datum → read_row (number + 1) datum ≡ Ok row → length after < length left → RowsSoFar start after (number + 1) (rows ++ row ∷ [])
+-- a row more, which the next tokens are
+pub one_more_row : (start left after : List Token) (number : ℕ) (rows : List MetaRow) (one : Json) (datum : Data) (row : MetaRow)
+    → RowsSoFar start left number rows → after_end_array left ≡ None → value 125 left ≡ Some (one, after)
+    → of_json one ≡ Some datum → read_row (number + 1) datum ≡ Ok row → length after < length left
+    → RowsSoFar start after (number + 1) (rows ++ row ∷ [])
 one_more_row start left after number rows one datum row so going reads is_data is_row shorter = record {
   turns = so.turns - 1;
   list = λ rest. so.list (json.item one rest);
@@ -130,8 +139,8 @@ one_more_row start left after number rows one datum row so going reads is_data i
 }
 
 -- the rows of a whole list
-pub all_rows : (start left after : List Token) (number most : ℕ) (rows : List MetaRow) → RowsSoFar start left number rows → after_end_array left ≡ Some after → number ≤ most
-    → ReadsRows most start after rows
+pub all_rows : (start left after : List Token) (number most : ℕ) (rows : List MetaRow) → RowsSoFar start left number rows
+    → after_end_array left ≡ Some after → number ≤ most → ReadsRows most start after rows
 all_rows start left after number most rows so ends few = (
   so.list json.no_items,
   so.values,
@@ -160,7 +169,8 @@ Greater≢Equal : Greater ≡ Equal → ⊥
 Greater≢Equal e = absurd cc
 
 -- what stands at a key after something was put at one
-pub get-put : (key other : List ℕ) (datum : Data) (all : Members) → get_member key (put other datum all) ≡ cond (is_eq (slice_cmp nat_cmp key other)) (Some datum) (get_member key all)
+pub get-put : (key other : List ℕ) (datum : Data) (all : Members)
+    → get_member key (put other datum all) ≡ cond (is_eq (slice_cmp nat_cmp key other)) (Some datum) (get_member key all)
 get-put key other datum no_members = by (slice_cmp nat_cmp key other) where
   by : (order : Ordering) → match_ordering order None (Some datum) None ≡ cond (is_eq order) (Some datum) None
   by Less = refl
@@ -204,7 +214,8 @@ get-put key other datum (member first old all) = by (get-put key other datum all
   by rest Greater e = behind rest (slice_cmp nat_cmp key first) refl e
 
 -- what stands at another key stays
-get-put-other : (key other : List ℕ) (datum : Data) (all : Members) → (key ≡ other → ⊥) → get_member key (put other datum all) ≡ get_member key all
+get-put-other : (key other : List ℕ) (datum : Data) (all : Members) → (key ≡ other → ⊥)
+    → get_member key (put other datum all) ≡ get_member key all
 get-put-other key other datum all apart =
     get-put key other datum all ∙ ap (λ same. cond same (Some datum) (get_member key all)) (by (slice_cmp nat_cmp key other) refl)
   where
@@ -214,7 +225,8 @@ get-put-other key other datum all apart =
     by Equal e = absurd (apart (exact_bytes key other e))
 
 -- what is found once rows stand at `ZoneFiles`
-pub rows_put : (most : ℕ) (found : FoundMembers) (rows : List MetaRow) (datum : Data) (before : Members) → AreRows most rows datum → Represents most found before
+pub rows_put : (most : ℕ) (found : FoundMembers) (rows : List MetaRow) (datum : Data) (before : Members)
+    → AreRows most rows datum → Represents most found before
     → Represents most (record found { rows = Some rows }) (put (codes "ZoneFiles") datum before)
 rows_put most found rows datum before are so = (
   get-put (codes "TopNameServers") (codes "ZoneFiles") datum before ∙ so.0,
@@ -230,8 +242,9 @@ tops_put most found value before so = (
 )
 
 -- a value at any other key changes nothing of what is found
-pub other_put : (most : ℕ) (found : FoundMembers) (key : List ℕ) (datum : Data) (before : Members) → (key ≡ codes "ZoneFiles" → ⊥) → (key ≡ codes "TopNameServers" → ⊥)
-    → Represents most found before → Represents most found (put key datum before)
+pub other_put : (most : ℕ) (found : FoundMembers) (key : List ℕ) (datum : Data) (before : Members)
+    → (key ≡ codes "ZoneFiles" → ⊥) → (key ≡ codes "TopNameServers" → ⊥) → Represents most found before
+    → Represents most found (put key datum before)
 other_put most found key datum before no_rows no_tops so = (
   get-put-other (codes "TopNameServers") key datum before (λ same. no_tops (sym same)) ∙ so.0,
   subst (HoldsRows most found.rows) (sym (get-put-other (codes "ZoneFiles") key datum before (λ same. no_rows (sym same)))) so.1,
@@ -247,7 +260,9 @@ pub record MembersSoFar (most : ℕ) (start left : List Token) (found : FoundMem
   pub converts : (rest : json.Members) → of_members (list rest) no_members ≡ of_members rest before
   pub represents : Represents most found before
 
-pub no_member : (most : ℕ) (start : List Token) (found : FoundMembers) → Represents most found no_members → MembersSoFar most start start found
+-- before the first member
+pub no_member : (most : ℕ) (start : List Token) (found : FoundMembers) → Represents most found no_members
+    → MembersSoFar most start start found
 no_member most start found represents = record {
   turns = length start;
   list = λ rest. rest;
@@ -261,9 +276,11 @@ no_member most start found represents = record {
   by None = refl
   by (Some p) = refl
 
-pub one_more_member : (most : ℕ) (start left behind after : List Token) (old new : FoundMembers) (key : List ℕ) (datum : Data) → MembersSoFar most start left old → read_key left ≡ Some (Some key, behind)
-    → ReadsValue 126 behind after datum → ((before : Members) → Represents most old before → Represents most new (put key datum before)) → length behind < length left → length after < length behind
-    → MembersSoFar most start after new
+-- a member more, which the next tokens are
+pub one_more_member : (most : ℕ) (start left behind after : List Token) (old new : FoundMembers) (key : List ℕ) (datum : Data)
+    → MembersSoFar most start left old → read_key left ≡ Some (Some key, behind) → ReadsValue 126 behind after datum
+    → ((before : Members) → Represents most old before → Represents most new (put key datum before))
+    → length behind < length left → length after < length behind → MembersSoFar most start after new
 one_more_member most start left behind after old new key datum so is_key reads represents shorter less = record {
   turns = so.turns - 1;
   list = λ rest. so.list (json.member key reads.0 rest);
@@ -276,7 +293,9 @@ one_more_member most start left behind after old new key datum so is_key reads r
   represents = represents so.before so.represents;
 }
 
-pub all_members : (most : ℕ) (start left after : List Token) (found : FoundMembers) → MembersSoFar most start left found → read_key left ≡ Some (None, after) → ReadsMembers most start after found
+-- the members of a whole object
+pub all_members : (most : ℕ) (start left after : List Token) (found : FoundMembers) → MembersSoFar most start left found
+    → read_key left ≡ Some (None, after) → ReadsMembers most start after found
 all_members most start left after found so ends = (
   so.list json.no_members,
   so.before,
@@ -286,8 +305,8 @@ all_members most start left after found so ends = (
 )
 
 -- octets of which nothing is left behind the members of an object are that object's text
-pub whole_object : (most : ℕ) (octets : List ℕ) (start : List Token) (found : FoundMembers) → IsUtf8 octets → tokens octets ≡ Token.begin_object ∷ start → ReadsMembers most start [] found
-    → ReadsAs most octets found
+pub whole_object : (most : ℕ) (octets : List ℕ) (start : List Token) (found : FoundMembers) → IsUtf8 octets
+    → tokens octets ≡ Token.begin_object ∷ start → ReadsMembers most start [] found → ReadsAs most octets found
 whole_object most octets start found utf8 opens so = (
   so.1,
   value_of-read octets (object so.1) utf8
@@ -300,11 +319,13 @@ whole_object most octets start found utf8 opens so = (
 -- ---- the metadata
 
 -- what a value means is the same where it is lent
-pub view_copied : (lent : Option (Bor Value)) → option_map (λ value. view value.now) lent ≡ option_map view (option_copied lent)
+pub view_copied : (lent : Option (Bor Value))
+    → option_map (λ value. view value.now) lent ≡ option_map view (option_copied lent)
 view_copied None = refl
 view_copied (Some value) = refl
 
-rows_read : (most : ℕ) (all : Members) (rows : List MetaRow) → HoldsRows most (Some rows) (get_member (codes "ZoneFiles") all) → rows_of most (object all) ≡ Ok rows
+rows_read : (most : ℕ) (all : Members) (rows : List MetaRow)
+    → HoldsRows most (Some rows) (get_member (codes "ZoneFiles") all) → rows_of most (object all) ≡ Ok rows
 rows_read most all rows (found, at, (values, is, are, few)) =
     let check : List Data → Result (List MetaRow) MetaFault = λ list. if nat_lt most (length list) then Err TooManyRows else each read_row 1 list in
     let enough : nat_lt most (length values) ≡ false = grind (arith, nat_tests, few) in
@@ -314,8 +335,8 @@ rows_read most all rows (found, at, (values, is, are, few)) =
     ∙ are
 
 -- the metadata of octets in which rows are found
-pub by_rows : (most : ℕ) (octets : List ℕ) (found : FoundMembers) (rows : List MetaRow) → ReadsAs most octets found → found.rows ≡ Some rows
-    → metadata_within most octets ≡ with_rows rows (option_map view found.tops)
+pub by_rows : (most : ℕ) (octets : List ℕ) (found : FoundMembers) (rows : List MetaRow) → ReadsAs most octets found
+    → found.rows ≡ Some rows → metadata_within most octets ≡ with_rows rows (option_map view found.tops)
 by_rows most octets found rows so is =
     ap (λ one. ok_or one NotJson >>= metadata_in most) so.1
     ∙ ap (λ said. tops_of (object so.0) >>= (λ tops. said >>= (λ rows. unless_unhosted (first_unhosted tops rows) (record { tops = tops; rows = rows }))))

@@ -1,4 +1,4 @@
--- Numbers of names that mostly tell their order. The contracts of inner calls alone cite it.
+-- Numbers of names that mostly tell their order. Public clauses cite `IsKeyBelow` alone.
 use Rattle.std.specs.Prelude.{◌≡◌, ℕ, ◌<◌, List, [], ◌∷◌, ◌++◌, length, slice_index}
 use Rattle.std.specs.Int.{w64, from_be_bytes}
 use Rattle.dns_data.specs.Label.{IsLabel}

@@ -25,7 +25,8 @@ impl NameTable {
         }
     }
 
-    /// The place of the name with these labels, where it is among the next few behind a place. `None` tells nothing.
+    /// The place of the name with these labels, where it is among the next few behind a place. `None` tells nothing: the
+    /// name may stand elsewhere.
     pub fn place_behind(&self, place: usize, labels: &Labels<'_>) -> Option<usize>
         requires { place < length self.now }
         ensures { IfSome result (λ near. (near < length self.now) × (name_at self.now near ≡ labels.now)) }

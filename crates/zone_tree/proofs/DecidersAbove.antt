@@ -9,7 +9,7 @@ use Rattle.zone_tree.specs.Decider.{IsTailIf}
 use Rattle.zone_tree.specs.FirstDecider.{is_cut, first_decider, Undecided}
 use Rattle.zone_tree.specs.Preceding.{IsPreceding}
 use Rattle.zone_tree.specs.Tree.{ZoneTree, name_of}
-use Rattle.zone_tree.specs.declared.places.Preceding.{Preceding}
+use Rattle.zone_tree.specs.declared.preceding.Preceding.{Preceding}
 use Rattle.zone_tree.proofs.FrontDeciders.{too_long, cut, redirection, neither}
 use Rattle.zone_tree.proofs.NamesBelow.{proper, improper, front_below, inside_below}
 

@@ -21,7 +21,7 @@ use Rattle.name_table.proofs.Tables.{begins_up_to, up_to_later}
 use Rattle.zone_tree.specs.Names.{AreExisting}
 use Rattle.zone_tree.specs.Preceding.{IsPreceding}
 use Rattle.zone_tree.specs.Tree.{ZoneTree}
-use Rattle.zone_tree.specs.declared.places.Preceding.{Preceding}
+use Rattle.zone_tree.specs.declared.preceding.Preceding.{Preceding}
 use Rattle.zone_tree.proofs.Descents.{origin_begins, encloser_at}
 use Rattle.zone_tree.proofs.Existing.{existing_within}
 use Rattle.zone_tree.proofs.Prefixes.{longest_itself}

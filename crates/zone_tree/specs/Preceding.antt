@@ -2,7 +2,7 @@
 use Rattle.std.specs.Prelude.{◌≡◌, ◌+◌, ◌<◌, ◌≤◌, true, false, length, take}
 use Rattle.dns_data.specs.Name.{Labels}
 use Rattle.net_model.specs.Zone.{exists_in}
-use Rattle.zone_tree.specs.declared.places.Preceding.{Preceding}
+use Rattle.zone_tree.specs.declared.preceding.Preceding.{Preceding}
 use Rattle.zone_tree.specs.Tree.{ZoneTree, IsNode, name_of}
 
 -- the labels that a node's name shares with the name are those of its longest existing prefix; where the name exists, the

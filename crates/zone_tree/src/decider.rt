@@ -14,7 +14,7 @@ ghost use Rattle.zone_tree.specs.Tree.{IsNode, name_of};
 use crate::enclosers::{source_behind, source_below};
 use crate::first_deciders::is_cut;
 use crate::node::NodeId;
-use crate::places::Preceding;
+use crate::preceding::Preceding;
 use crate::tree::Tree;
 use dns_data::{Name, RrType, TypeSet};
 

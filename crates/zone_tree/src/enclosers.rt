@@ -7,7 +7,7 @@ ghost use Rattle.zone_tree.specs.Preceding.{IsPreceding};
 ghost use Rattle.zone_tree.specs.Tree.{IsNode, name_of};
 
 use crate::node::NodeId;
-use crate::places::Preceding;
+use crate::preceding::Preceding;
 use crate::tree::Tree;
 use dns_data::Name;
 

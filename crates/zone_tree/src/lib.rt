@@ -31,7 +31,7 @@ mod node;
 mod order;
 mod owned_data;
 mod owners;
-mod places;
+mod preceding;
 mod records;
 mod texts;
 mod tree;

@@ -21,7 +21,7 @@ use crate::node::NodeId;
 use crate::order::merged;
 use crate::owned_data::OwnedData;
 use crate::owners::{records_by_name, rrs_in_order};
-use crate::places::Preceding;
+use crate::preceding::Preceding;
 use crate::records::target_of;
 use dns_data::{Label, Labels, List, Name, NoMemory, Rdata, RrType, TypeSet};
 use name_table::NameTable;
