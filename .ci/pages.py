@@ -1,7 +1,7 @@
 #!/usr/bin/env python3
 """Counts the pages that people read.
 
-A page has at most so many words, CHANGELOG.md for each version, and some have no sentence of more than 40 words. Links between pages lead to files and
+A page has at most so many words, CHANGELOG.md for each version, and some have no sentence of more than 36 words. Links between pages lead to files and
 headings that are there. The table of docs/ARCHITECTURE.md has the crates of crates.txt, and each manual page the version of
 CHANGELOG.md. A line names each fault, and the status is 1 if there is one.
 """
@@ -15,13 +15,14 @@ MOST_WORDS = {
     "docs/BELIEVE.md": 700,
     "docs/ARCHITECTURE.md": 2500,
     "docs/PROGRAMS.md": 1300,
-    "docs/PROMISES.md": 4250,
-    "docs/WORDS.md": 1500,
+    "docs/PROMISES.md": 4370,
+    "docs/WORDS.md": 1600,
     "docs/CHANGES.md": 1000,
     "CONTRIBUTING.md": 2000,
     "CHANGELOG.md": 600,
 }
-SHORT_SENTENCES = ["README.md", "docs/BELIEVE.md", "docs/ARCHITECTURE.md", "docs/TRUST.md", "docs/WORDS.md", "CONTRIBUTING.md"]
+SHORT_SENTENCES = ["README.md", "CONTRIBUTING.md", *(f"docs/{page}.md" for page in (
+    "ARCHITECTURE", "BELIEVE", "COMMANDS", "CONTRACTS", "PARTS", "PIPELINES", "SITE", "TRUST", "VIEWS", "WORDS"))]
 MOST_IN_A_SENTENCE = 36
 ROW = re.compile(r"^\| ([\w ]*) \| \[(\w+)\]\(\.\./crates/(\w+)\) \|", re.M)
 
