@@ -1,9 +1,8 @@
 -- The names of a tree are those that exist in its zone.
-use Rattle.std.proofs.Common.{◌≡◌, Bool, true, false, cond, ◌&&◌, List, [], ◌∷◌, ◌++◌, map, get_or, Contains, filter, IsPermutation, IsSorted, sym, refl, ap, ◌∙◌, subst, inl, inr, arith}
+use Rattle.std.proofs.Common.{◌≡◌, true, ◌&&◌, List, [], ◌∷◌, ◌++◌, ◌↔◌, map, get_or, Contains, IsSorted, sym, refl, ap, ◌∙◌, subst, inl, inr, arith}
 use Rattle.std.specs.List.{list_any}
-use Rattle.std.proofs.lemmas.Bool.{and_parts, and_from, or_cases, or_left, or_right}
 use Rattle.std.proofs.lemmas.List.Elements.{Contains-get_or}
-use Rattle.std.proofs.lemmas.List.Sorted.{IsPermutation-sym, IsPermutation-map, Contains-permutation}
+use Rattle.std.proofs.lemmas.Bool.{and_parts, and_from, or_cases, or_left, or_right}
 use Rattle.dns_data.specs.Name.{Labels, name_eq, name_cmp, is_prefix}
 use Rattle.dns_data.specs.declared.rdata.Rr.{Rr}
 use Rattle.net_model.proofs.Descent.{prefix_exists, prefix_of_prefix}
@@ -11,7 +10,9 @@ use Rattle.net_model.specs.declared.config.Zone.{Zone}
 use Rattle.net_model.specs.Zone.{exists_in}
 use Rattle.zone_tree.specs.Names.{tree_after, AreExisting}
 use Rattle.zone_tree.specs.Owners.{AreByOwner}
-use Rattle.dns_data.proofs.Membership.{has_first, has_later, first_or_later, filter_has, from_filter, map_has, from_map}
+use Rattle.zone_tree.specs.Runs.{owner_of}
+use Rattle.zone_tree.specs.declared.runs.KeyedRun.{KeyedRun}
+use Rattle.dns_data.proofs.Membership.{has_first, has_later, first_or_later, map_has, from_map}
 use Rattle.dns_data.proofs.NameFronts.{Begins, is_prefix_tells, is_prefix_told, begins_itself, two_fronts}
 use Rattle.dns_data.proofs.NameOrder.{Before, before_up_to, names_total, pairs_from_rising}
 use Rattle.dns_data.proofs.Names.{name_eq_decides}
@@ -25,27 +26,11 @@ use Rattle.zone_tree.proofs.SortedTree.{InOrder, in_order, tree_stands_after, ri
 pub begin_each_other : (a b : Labels) → Begins a b → Begins b a → a ≡ b
 begin_each_other a b there back = both_up_to a b (begins_up_to a b there) (begins_up_to b a back)
 
--- the owners of records that pass a test of their owners
-owners_kept : (test : Labels → Bool) (rrs : List Rr) → map (λ (rr : Rr). rr.owner) (filter (λ rr. test rr.owner) rrs) ≡ filter test (map (λ (rr : Rr). rr.owner) rrs)
-owners_kept test [] = refl
-owners_kept test (rr ∷ rrs) = by (test rr.owner) (owners_kept test rrs) where
-  by : (b : Bool) → map (λ (r : Rr). r.owner) (filter (λ r. test r.owner) rrs) ≡ filter test (map (λ (r : Rr). r.owner) rrs)
-      → map (λ (r : Rr). r.owner) (cond b (rr ∷ filter (λ r. test r.owner) rrs) (filter (λ r. test r.owner) rrs))
-      ≡ cond b (rr.owner ∷ filter test (map (λ (r : Rr). r.owner) rrs)) (filter test (map (λ (r : Rr). r.owner) rrs))
-  by true rest = ap (λ (xs : List Labels). rr.owner ∷ xs) rest
-  by false rest = rest
-
-module _ (zone : Zone) (owners : List Labels) (same : IsPermutation (filter (is_prefix zone.origin) (map (λ rr. rr.owner) zone.rrs)) owners)
+module _ (zone : Zone) (owners : List Labels)
+    (owned : (name : Labels) → Contains owners name ↔ (Contains (map (λ rr. rr.owner) zone.rrs) name × (is_prefix zone.origin name ≡ true)))
     (sorted : IsSorted name_cmp owners) where
-  -- an owner is at or below the origin, and some record's
-  owner_of : (name : Labels) → Contains owners name → Contains (map (λ (rr : Rr). rr.owner) zone.rrs) name × (is_prefix zone.origin name ≡ true)
-  owner_of name has =
-      from_filter (is_prefix zone.origin) (map (λ (rr : Rr). rr.owner) zone.rrs) name
-      (Contains-permutation owners (filter (is_prefix zone.origin) (map (λ (rr : Rr). rr.owner) zone.rrs)) name
-      (IsPermutation-sym (filter (is_prefix zone.origin) (map (λ (rr : Rr). rr.owner) zone.rrs)) owners same) has)
-
   below : (name : Labels) → Contains owners name → Begins zone.origin name
-  below name has = is_prefix_tells zone.origin name (owner_of name has).1
+  below name has = is_prefix_tells zone.origin name ((owned name).0 has).1
 
   order : InOrder zone.origin owners
   order = in_order zone.origin owners sorted below
@@ -64,11 +49,11 @@ module _ (zone : Zone) (owners : List Labels) (same : IsPermutation (filter (is_
             or_right (name_eq name zone.origin) (is_prefix zone.origin name && list_any (λ rr. is_prefix name rr.owner) zone.rrs)
             (and_from (is_prefix zone.origin name) (list_any (λ rr. is_prefix name rr.owner) zone.rrs)
             (at_or_below stands (below found.0 found.1) found.2)
-            (owned found.0 (owner_of found.0 found.1).0 found.2)))
+            (found_below found.0 ((owned found.0).0 found.1).0 found.2)))
       ]
     where
-      owned : (owner : Labels) → Contains (map (λ (rr : Rr). rr.owner) zone.rrs) owner → Begins name owner → list_any (λ rr. is_prefix name rr.owner) zone.rrs ≡ true
-      owned owner has begins =
+      found_below : (owner : Labels) → Contains (map (λ (rr : Rr). rr.owner) zone.rrs) owner → Begins name owner → list_any (λ rr. is_prefix name rr.owner) zone.rrs ≡ true
+      found_below owner has begins =
           let found = from_map (λ (rr : Rr). rr.owner) zone.rrs owner has in
           any_has (λ (rr : Rr). is_prefix name rr.owner) zone.rrs found.0 found.1
           (is_prefix_told name found.0.owner (subst (Begins name) (sym found.2) begins))
@@ -93,9 +78,7 @@ module _ (zone : Zone) (owners : List Labels) (same : IsPermutation (filter (is_
             let down = is_prefix_tells zone.origin name parts.0 in
             let all : Begins zone.origin found.0.owner = prefix_of_prefix zone.origin name found.0.owner down begins in
             elim (tree_after_has zone.origin owners found.0.owner name
-            (Contains-permutation (filter (is_prefix zone.origin) (map (λ (rr : Rr). rr.owner) zone.rrs)) owners found.0.owner same
-            (filter_has (is_prefix zone.origin) (map (λ (rr : Rr). rr.owner) zone.rrs) found.0.owner
-            (map_has (λ (rr : Rr). rr.owner) zone.rrs found.0 found.1) (is_prefix_told zone.origin found.0.owner all)))
+            ((owned found.0.owner).1 (map_has (λ (rr : Rr). rr.owner) zone.rrs found.0 found.1, is_prefix_told zone.origin found.0.owner all))
             begins) [
               | inl up ↦ at_origin (begin_each_other zone.origin name down up)
               | inr later ↦ has_later zone.origin (tree_after zone.origin owners) name later
@@ -113,13 +96,9 @@ module _ (zone : Zone) (owners : List Labels) (same : IsPermutation (filter (is_
     all = λ name. (exists_there name, there_if_exists name);
   }
 
--- the origin, and what the owners of the zone's records in order add
-pub are_existing : (zone : Zone) (rrs : List Rr) → AreByOwner zone rrs → AreExisting zone (zone.origin ∷ tree_after zone.origin (map (λ rr. rr.owner) rrs))
-are_existing zone rrs are =
-    existing zone (map (λ (rr : Rr). rr.owner) rrs)
-    (subst (λ (xs : List Labels). IsPermutation xs (map (λ (rr : Rr). rr.owner) rrs)) (owners_kept (is_prefix zone.origin) zone.rrs)
-    (IsPermutation-map (λ (rr : Rr). rr.owner) (filter (λ (rr : Rr). is_prefix zone.origin rr.owner) zone.rrs) rrs are.same))
-    are.sorted
+-- the origin, and what the owners of the zone's runs in order add
+pub are_existing : (zone : Zone) (runs : List KeyedRun) → AreByOwner zone runs → AreExisting zone (zone.origin ∷ tree_after zone.origin (map owner_of runs))
+are_existing zone runs are = existing zone (map owner_of runs) are.owners are.sorted
 
 -- an existing name is at or below the origin
 pub existing_within : (zone : Zone) (name : Labels) → exists_in zone name ≡ true → is_prefix zone.origin name ≡ true
@@ -155,10 +134,10 @@ owner_exists zone rr has within =
     (any_has (λ (one : Rr). is_prefix rr.owner one.owner) zone.rrs rr has (begins_itself rr.owner)))
 
 -- the owner of each record at or below the origin is among the names that exist in the zone
-pub owners_among : (zone : Zone) (rrs : List Rr) (all : List Labels) → AreByOwner zone rrs → AreExisting zone all
-    → (rr : Rr) → Contains rrs rr → Contains all rr.owner
-owners_among zone rrs all are there rr has =
-    let found = from_filter (λ (one : Rr). is_prefix zone.origin one.owner) zone.rrs rr
-    (Contains-permutation rrs (filter (λ (one : Rr). is_prefix zone.origin one.owner) zone.rrs) rr
-    (IsPermutation-sym (filter (λ (one : Rr). is_prefix zone.origin one.owner) zone.rrs) rrs are.same) has) in
-    (there.all rr.owner).1 (owner_exists zone rr found.0 found.1)
+pub owners_among : (zone : Zone) (runs : List KeyedRun) (all : List Labels) → AreByOwner zone runs → AreExisting zone all
+    → (owner : Labels) → Contains (map owner_of runs) owner → Contains all owner
+owners_among zone runs all are there owner has =
+    let parts = (are.owners owner).0 has in
+    let (rr, among, is) = from_map (λ (one : Rr). one.owner) zone.rrs owner parts.0 in
+    subst (Contains all) is
+    ((there.all rr.owner).1 (owner_exists zone rr among (subst (λ (x : Labels). is_prefix zone.origin x ≡ true) (sym is) parts.1)))

@@ -4,7 +4,7 @@ mod Descents
 pub mod Existing
 mod FrontDeciders
 mod InPlace
-mod KeyedRecords
+mod KeyedRuns
 mod LastUpTo
 mod Merged
 mod NameData
@@ -13,6 +13,7 @@ mod NamesBelow
 mod NextDeciders
 mod OneDatum
 mod Owned
+mod OwnedLists
 pub mod Prefixes
 pub mod SortedTree
 pub mod Types

@@ -8,16 +8,16 @@ use Rattle.std.proofs.lemmas.Map.Views.{any-filter_same}
 use Rattle.dns_data.proofs.Sets.{bit_of}
 use Rattle.dns_data.specs.Name.{name_cmp}
 use Rattle.dns_data.specs.Rdata.{has_type, type_of_data}
-use Rattle.dns_data.specs.RrType.{types, type_eq, number_of}
+use Rattle.dns_data.specs.RrType.{type_eq, number_of}
 use Rattle.dns_data.specs.declared.rdata.Rdata.{Rdata}
 use Rattle.dns_data.specs.declared.rr_type.RrType.{RrType}
 use Rattle.dns_data.specs.declared.rr_type.RrType.TheVariants.{Ns}
 use Rattle.net_model.specs.Order.{in_order}
 use Rattle.net_model.specs.Zone.{target_of}
 use Rattle.zone_tree.specs.OwnedData.{written_out, HaveSameData}
-use Rattle.zone_tree.specs.Records.{TellsData}
+use Rattle.zone_tree.specs.Records.{Set, TellsData}
 use Rattle.zone_tree.specs.declared.owned_data.OwnedForm.TheVariants.{Nothing, OneDatum}
-use Rattle.zone_tree.specs.declared.records.Set.{Set}
+use Rattle.zone_tree.specs.declared.owned_lists.OwnedLists.{OwnedLists}
 use Rattle.zone_tree.proofs.Types.{set_of_one}
 
 -- lists of which a filter leaves the same pass its test alike
@@ -32,8 +32,8 @@ alone all later rdata same none = record {
 }
 
 -- if a name has no data of the twelve types, nothing tells of its data
-pub nothing_told : (all : List Rdata) → HaveSameData all [] → TellsData all (written_out Nothing)
-nothing_told all same =
+pub nothing_told : (lists : OwnedLists) (all : List Rdata) → HaveSameData all [] → TellsData all (written_out lists Nothing)
+nothing_told lists all same =
     let none : (rtype : RrType) → list_any (has_type rtype) all ≡ false = λ rtype. same_any (has_type rtype) all [] (same.each rtype) in
     record {
       types = λ rtype. bit_of (λ other. false) rtype ∙ sym (none rtype);
@@ -46,9 +46,9 @@ type_of_one : (own : RrType) (rdata : Rdata) → type_of_data rdata ≡ Some own
 type_of_one own rdata is rtype = rw is (nat_eq_equiv.symm (number_of rtype) (number_of own))
 
 -- one datum of a type other than NS is told by its type and itself
-pub one_told : (all : List Rdata) (own : RrType) (rdata : Bor Rdata) → HaveSameData all (rdata.now ∷ []) → type_of_data rdata.now ≡ Some own → type_eq own Ns ≡ false
-    → TellsData all (written_out (OneDatum own rdata))
-one_told all own rdata same is other =
+pub one_told : (lists : OwnedLists) (all : List Rdata) (own : RrType) (rdata : Bor Rdata) → HaveSameData all (rdata.now ∷ []) → type_of_data rdata.now ≡ Some own → type_eq own Ns ≡ false
+    → TellsData all (written_out lists (OneDatum own rdata))
+one_told lists all own rdata same is other =
     let set : Set = record { rtype = own; first = rdata; several = [] } in
     let has : (rtype : RrType) → has_type rtype rdata.now ≡ type_eq own rtype = type_of_one own rdata.now is in
     let kept : (rtype : RrType) (there : Bool) → has_type rtype rdata.now ≡ there → filter (has_type rtype) all ≡ cond there (rdata.now ∷ []) [] =

@@ -1,8 +1,8 @@
--- Records in the order of their owners: those of a name stand together, and what they are a stable sort keeps.
-use Rattle.std.proofs.Common.{◌≡◌, ◌≢◌, ℕ, zero, suc, ◌+◌, ◌<◌, Bool, true, false, cond, not, ◌&&◌, List, [], ◌∷◌, map, filter, length, get_or, take, drop, Contains, IsSorted, Bor, Ordering, Less, Equal, Greater, is_lt, is_gt, sym, refl, ap, ◌∙◌, subst, inl, inr, true≢false, arith}
+-- Runs in the order of their owners: those of a name stand together, and what they are a stable sort keeps.
+use Rattle.std.proofs.Common.{◌≡◌, ◌≢◌, ℕ, zero, suc, ◌+◌, ◌<◌, Bool, true, false, cond, not, ◌&&◌, List, [], ◌∷◌, ◌++◌, map, filter, flat_map, length, get_or, take, drop, Contains, IsSorted, Bor, Ordering, Less, Equal, Greater, is_lt, is_gt, sym, refl, ap, ◌∙◌, subst, inl, inr, true≢false, arith}
 use Rattle.std.proofs.lemmas.Bool.{cases_lt, cases_eq}
 use Rattle.std.proofs.lemmas.Cmp.{tied_itself}
-use Rattle.std.proofs.lemmas.List.{get_or_default}
+use Rattle.std.proofs.lemmas.List.{get_or_default, map-append}
 use Rattle.std.specs.Ordering.{ordering_reverse}
 use Rattle.dns_data.specs.Name.{Labels, name_eq, name_cmp, is_prefix, AreInOrder}
 use Rattle.dns_data.specs.declared.rdata.Rdata.{Rdata}
@@ -11,13 +11,11 @@ use Rattle.dns_data.proofs.Membership.{has_first, has_later}
 use Rattle.dns_data.proofs.NameOrder.{UpTo, Before, names_total, before_up_to, before_differs, behind_differs}
 use Rattle.dns_data.proofs.Names.{name_eq_decides, same_names}
 use Rattle.dns_data.proofs.OrderedLists.{never_before_itself}
-use Rattle.zone_tree.specs.Owners.{leading}
+use Rattle.zone_tree.specs.Owners.{data_of_runs, leading}
 use Rattle.zone_tree.specs.Records.{data_of}
+use Rattle.zone_tree.specs.Runs.{data_of_run, owner_of, records_in}
+use Rattle.zone_tree.specs.declared.runs.KeyedRun.{KeyedRun}
 use Rattle.zone_tree.proofs.SortedTree.{InOrder, in_order_after}
-
--- the owner of a record
-abbrev pub owner_of : Rr → Labels
-owner_of rr = rr.owner
 
 -- the data of a record
 abbrev pub rdata_of : Rr → Rdata
@@ -27,14 +25,20 @@ rdata_of rr = rr.rdata
 abbrev pub now_of : Bor Rr → Rr
 now_of rr = rr.now
 
--- ---- the records of a name at the front
+-- the data of runs are those of their records
+pub data_of_all : (runs : List KeyedRun) → map rdata_of (flat_map records_in runs) ≡ flat_map data_of_run runs
+data_of_all [] = refl
+data_of_all (run ∷ runs) =
+    map-append rdata_of (records_in run) (flat_map records_in runs) ∙ ap (λ (all : List Rdata). data_of_run run ++ all) (data_of_all runs)
+
+-- ---- the runs of a name at the front
 
 -- a name that stands before the first of names in order is none of them
-none_owned : (name first : Labels) (rrs : List Rr) → Before name first → InOrder first (map owner_of rrs) → data_of rrs name ≡ []
+none_owned : (name first : Labels) (runs : List KeyedRun) → Before name first → InOrder first (map owner_of runs) → data_of_runs runs name ≡ []
 none_owned name first [] before order = refl
-none_owned name first (rr ∷ rrs) before order =
-    let here : Before name rr.owner = before_up_to name first rr.owner before order.0 in
-    rw (behind_differs rr.owner name here) (none_owned name rr.owner rrs here order.1)
+none_owned name first (run ∷ runs) before order =
+    let here : Before name (owner_of run) = before_up_to name first (owner_of run) before order.0 in
+    rw (behind_differs (owner_of run) name here) (none_owned name (owner_of run) runs here order.1)
 
 -- a name that stands up to another and isn't it stands before it
 up_to_other : (name other : Labels) → UpTo name other → name_eq other name ≡ false → Before name other
@@ -45,58 +49,52 @@ up_to_other name other le differs = by (name_cmp name other) refl le where
   by Greater e h = absurd (true≢false h)
 
 module _ (name : Labels) where
-  -- the records of a name are the first records, if the list stands in order from that name on
-  pub data_leading : (rrs : List Rr) → InOrder name (map owner_of rrs) → data_of rrs name ≡ map rdata_of (take (leading name rrs) rrs)
-  data_leading [] order = by (leading name []) where
-    by : (n : ℕ) → [] ≡ map rdata_of (take n [])
-    by zero = refl
-    by (suc n) = refl
-  data_leading (rr ∷ rrs) order = by (name_eq rr.owner name) refl (data_leading rrs) where
-    by : (b : Bool) → name_eq rr.owner name ≡ b → (InOrder name (map owner_of rrs) → data_of rrs name ≡ map rdata_of (take (leading name rrs) rrs))
-        → map rdata_of (cond b (rr ∷ filter (λ r. name_eq r.owner name) rrs) (filter (λ r. name_eq r.owner name) rrs))
-        ≡ map rdata_of (take (cond b (suc (leading name rrs)) 0) (rr ∷ rrs))
+  -- the runs of a name are the first runs, if the list stands in order from that name on
+  pub data_leading : (runs : List KeyedRun) → InOrder name (map owner_of runs)
+      → data_of_runs runs name ≡ flat_map data_of_run (take (leading name (map owner_of runs)) runs)
+  data_leading [] order = refl
+  data_leading (run ∷ runs) order = by (name_eq (owner_of run) name) refl (data_leading runs) where
+    by : (b : Bool) → name_eq (owner_of run) name ≡ b
+        → (InOrder name (map owner_of runs) → data_of_runs runs name ≡ flat_map data_of_run (take (leading name (map owner_of runs)) runs))
+        → flat_map data_of_run (cond b (run ∷ filter (λ other. name_eq (owner_of other) name) runs) (filter (λ other. name_eq (owner_of other) name) runs))
+        ≡ flat_map data_of_run (take (cond b (suc (leading name (map owner_of runs))) 0) (run ∷ runs))
     by true e rest =
-        let same : rr.owner ≡ name = (name_eq_decides rr.owner name).0 e in
-        ap (λ (xs : List Rdata). rr.rdata ∷ xs) (rest (subst (λ (x : Labels). InOrder x (map owner_of rrs)) same order.1))
-    by false e rest = none_owned name rr.owner rrs (up_to_other name rr.owner order.0 e) order.1
+        let same : owner_of run ≡ name = (name_eq_decides (owner_of run) name).0 e in
+        ap (λ (all : List Rdata). data_of_run run ++ all) (rest (subst (λ (x : Labels). InOrder x (map owner_of runs)) same order.1))
+    by false e rest = none_owned name (owner_of run) runs (up_to_other name (owner_of run) order.0 e) order.1
 
-  -- the records of another name are behind the first records of a name
-  pub data_behind : (rrs : List Rr) (other : Labels) → name_eq name other ≡ false → data_of (drop (leading name rrs) rrs) other ≡ data_of rrs other
-  data_behind [] other differs = by (leading name []) where
-    by : (n : ℕ) → data_of (drop n []) other ≡ []
-    by zero = refl
-    by (suc n) = refl
-  data_behind (rr ∷ rrs) other differs = by (name_eq rr.owner name) refl (data_behind rrs other differs) where
-    by : (b : Bool) → name_eq rr.owner name ≡ b → data_of (drop (leading name rrs) rrs) other ≡ data_of rrs other
-        → data_of (drop (cond b (suc (leading name rrs)) 0) (rr ∷ rrs)) other ≡ data_of (rr ∷ rrs) other
+  -- the runs of another name are behind the first runs of a name
+  pub data_behind : (runs : List KeyedRun) (other : Labels) → name_eq name other ≡ false
+      → data_of_runs (drop (leading name (map owner_of runs)) runs) other ≡ data_of_runs runs other
+  data_behind [] other differs = refl
+  data_behind (run ∷ runs) other differs = by (name_eq (owner_of run) name) refl (data_behind runs other differs) where
+    by : (b : Bool) → name_eq (owner_of run) name ≡ b → data_of_runs (drop (leading name (map owner_of runs)) runs) other ≡ data_of_runs runs other
+        → data_of_runs (drop (cond b (suc (leading name (map owner_of runs))) 0) (run ∷ runs)) other ≡ data_of_runs (run ∷ runs) other
     by true e rest =
-        let same : name ≡ rr.owner = sym ((name_eq_decides rr.owner name).0 e) in
-        rest ∙ sym (ap (λ (b : Bool). map rdata_of (cond b (rr ∷ filter (λ r. name_eq r.owner other) rrs) (filter (λ r. name_eq r.owner other) rrs)))
+        let same : name ≡ owner_of run = sym ((name_eq_decides (owner_of run) name).0 e) in
+        rest ∙ sym (ap (λ (b : Bool). flat_map data_of_run (cond b (run ∷ filter (λ one. name_eq (owner_of one) other) runs) (filter (λ one. name_eq (owner_of one) other) runs)))
         (ap (λ (x : Labels). name_eq x other) (sym same) ∙ differs))
     by false e rest = refl
 
-  -- the records behind those of a name stand in order from a later name on, if each owner behind the name stands up to
-  -- it
-  pub order_behind : (rrs : List Rr) (next : Labels) → InOrder name (map owner_of rrs)
-      → ((rr : Rr) → Contains rrs rr → Before name rr.owner → UpTo next rr.owner) → InOrder next (map owner_of (drop (leading name rrs) rrs))
-  order_behind [] next order later = by (leading name []) where
-    by : (n : ℕ) → InOrder next (map owner_of (drop n []))
-    by zero = tt
-    by (suc n) = tt
-  order_behind (rr ∷ rrs) next order later = by (name_eq rr.owner name) refl (order_behind rrs next) where
-    by : (b : Bool) → name_eq rr.owner name ≡ b
-        → (InOrder name (map owner_of rrs) → ((r : Rr) → Contains rrs r → Before name r.owner → UpTo next r.owner) → InOrder next (map owner_of (drop (leading name rrs) rrs)))
-        → InOrder next (map owner_of (drop (cond b (suc (leading name rrs)) 0) (rr ∷ rrs)))
+  -- the owners behind those that are a name stand in order from a later name on, if each that stands behind the name
+  -- stands up to it
+  pub order_behind : (owners : List Labels) (next : Labels) → InOrder name owners
+      → ((owner : Labels) → Contains owners owner → Before name owner → UpTo next owner) → InOrder next (drop (leading name owners) owners)
+  order_behind [] next order later = tt
+  order_behind (owner ∷ owners) next order later = by (name_eq owner name) refl (order_behind owners next) where
+    by : (b : Bool) → name_eq owner name ≡ b
+        → (InOrder name owners → ((other : Labels) → Contains owners other → Before name other → UpTo next other) → InOrder next (drop (leading name owners) owners))
+        → InOrder next (drop (cond b (suc (leading name owners)) 0) (owner ∷ owners))
     by true e rest =
-        let same : rr.owner ≡ name = (name_eq_decides rr.owner name).0 e in
-        rest (subst (λ (x : Labels). InOrder x (map owner_of rrs)) same order.1) (λ r has. later r (has_later rr rrs r has))
-    by false e rest = (later rr (has_first rr rrs) (up_to_other name rr.owner order.0 e), order.1)
+        let same : owner ≡ name = (name_eq_decides owner name).0 e in
+        rest (subst (λ (x : Labels). InOrder x owners) same order.1) (λ other has. later other (has_later owner owners other has))
+    by false e rest = (later owner (has_first owner owners) (up_to_other name owner order.0 e), order.1)
 
 -- what stands behind the front of a list is in it
-pub from_drop : (n : ℕ) (rrs : List Rr) (rr : Rr) → Contains (drop n rrs) rr → Contains rrs rr
-from_drop zero rrs rr has = has
-from_drop (suc n) [] rr has = has
-from_drop (suc n) (first ∷ rrs) rr has = has_later first rrs rr (from_drop n rrs rr has)
+pub from_drop : {X : Type 0} (n : ℕ) (xs : List X) (x : X) → Contains (drop n xs) x → Contains xs x
+from_drop zero xs x has = has
+from_drop (suc n) [] x has = has
+from_drop (suc n) (first ∷ xs) x has = has_later first xs x (from_drop n xs x has)
 
 -- ---- names in order
 
@@ -156,12 +154,12 @@ module _ (names : List Labels) (ordered : AreInOrder names) where
             ap is_gt (subst (Before (get_or names (i + 1) [])) there.2 first))
       ]
 
-  -- sorted records whose owners are among the names stand in order from the first name on
-  pub order_from_first : (rrs : List Rr) → IsSorted name_cmp (map owner_of rrs) → ((rr : Rr) → Contains rrs rr → Contains names rr.owner)
-      → InOrder (get_or names 0 []) (map owner_of rrs)
+  -- sorted owners that are among the names stand in order from the first name on
+  pub order_from_first : (owners : List Labels) → IsSorted name_cmp owners → ((owner : Labels) → Contains owners owner → Contains names owner)
+      → InOrder (get_or names 0 []) owners
   order_from_first [] sorted among = tt
-  order_from_first (rr ∷ rrs) sorted among =
-      (first_up_to rr.owner (among rr (has_first rr rrs)), in_order_after rr.owner (map owner_of rrs) sorted)
+  order_from_first (owner ∷ owners) sorted among =
+      (first_up_to owner (among owner (has_first owner owners)), in_order_after owner owners sorted)
 
 -- ---- what a sort by owners keeps
 

@@ -18,8 +18,7 @@ use Rattle.net_model.specs.Lookup.{first_name}
 use Rattle.net_model.specs.Order.{in_order, put_in_order, beside}
 use Rattle.net_model.specs.Zone.{target_of, targets_at, data_cmp}
 use Rattle.net_model.specs.declared.config.Zone.{Zone}
-use Rattle.zone_tree.specs.declared.records.Set.{Set}
-use Rattle.zone_tree.specs.Records.{data_of, targets_of, all_of, all_in, data_in, first_in, first_of, IsRecordSetOf, AreRecordSets}
+use Rattle.zone_tree.specs.Records.{Set, data_of, targets_of, all_of, all_in, data_in, first_in, first_of, IsRecordSetOf, AreRecordSets}
 use Rattle.zone_tree.proofs.NameData.{data_of_type}
 
 -- the type with a number

@@ -2,13 +2,13 @@ pub use Rattle.net_model.specs.Lookup
 pub use Rattle.net_model.specs.Order
 pub use Rattle.net_model.specs.Zone
 pub mod Decider
-pub mod Few
 pub mod FirstDecider
-pub mod KeyedRecords
 pub mod Merged
 pub mod Names
 pub mod OwnedData
+pub mod OwnedLists
 pub mod Owners
 pub mod Preceding
 pub mod Records
+pub mod Runs
 pub mod Tree

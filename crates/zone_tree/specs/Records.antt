@@ -1,5 +1,6 @@
 -- What a name owns. The contracts of inner calls alone cite it.
 use Rattle.std.specs.Prelude.{◌≡◌, ℕ, ◌<◌, Bool, true, ◌||◌, List, [], ◌∷◌, map, length, slice_index_or, Option, Some, None, if◌then◌else◌}
+use Rattle.std.specs.Borrow.{Bor}
 use Rattle.std.specs.List.{filter, filter_map, list_any, AllByRecursion}
 use Rattle.dns_data.specs.Name.{Labels, name_eq, name_cmp}
 use Rattle.dns_data.specs.Rdata.{has_type}
@@ -12,9 +13,19 @@ use Rattle.dns_data.specs.declared.rr_type.RrType.TheVariants as rr_type
 use Rattle.net_model.specs.declared.config.Zone.{Zone}
 use Rattle.net_model.specs.Order.{in_order}
 use Rattle.net_model.specs.Zone.{target_of, data_cmp}
-use Rattle.zone_tree.specs.declared.records.OwnedRecords.{OwnedRecords}
-use Rattle.zone_tree.specs.declared.records.Set.{Set}
 use Rattle.zone_tree.specs.Names.{AreExisting}
+
+-- the data of a type: the first in file order, and where there are several all of them
+pub record Set : Type 0 where
+  pub rtype : RrType
+  pub first : Bor Rdata
+  pub several : List Rdata
+
+-- what a name owns: its types, its name servers, and the data of each type
+pub record OwnedRecords : Type 0 where
+  pub types : List Bool
+  pub servers : List (Bor Labels)
+  pub sets : List Set
 
 -- all data of a name among records, in their order
 abbrev pub data_of : List Rr → Labels → List Rdata

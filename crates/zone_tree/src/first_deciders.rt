@@ -20,7 +20,7 @@ pub(crate) fn first_deciders(
     alloc: Global,
     zone: &Zone,
     names: &[Name],
-    records: &[OwnedData<'_>],
+    records: &OwnedData<'_>,
 ) -> Result<Vec<NodeId>, NoMemory>
     requires { IsTree zone.now names.now records.now }
     ensures { IfOk result (λ firsts. AreFirstDeciders zone.now names.now firsts.items) }
@@ -38,7 +38,7 @@ pub(crate) fn first_deciders(
 fn first_decider_at(
     zone: &Zone,
     names: &[Name],
-    records: &[OwnedData<'_>],
+    records: &OwnedData<'_>,
     before: NodeId,
     place: usize,
 ) -> NodeId
@@ -49,10 +49,10 @@ fn first_decider_at(
 {
     let name = &names[place];
     let above = &names[before.place()];
-    if decides_at(zone, above, records[before.place()].types(), name) {
+    if decides_at(zone, above, records.at(before.place()).types(), name) {
         return before;
     }
-    if decides_below(zone, name, records[place].types()) {
+    if decides_below(zone, name, records.at(place).types()) {
         return NodeId::at(place);
     }
     NodeId::at(0)

@@ -3,31 +3,37 @@
 ghost use Rattle.std.specs.Prelude.{◌≡◌, ◌∷◌, ◌++◌, map, IfOk, OnOk};
 ghost use Rattle.zone_tree.specs.Names.{new_prefixes, tree_after, AreExisting};
 ghost use Rattle.zone_tree.specs.Owners.{AreByOwner};
+ghost use Rattle.zone_tree.specs.Runs.{owner_of};
 
-use dns_data::{Name, NoMemory, Rr};
+use crate::runs::KeyedRun;
+use dns_data::{Name, NoMemory};
 use net_model::Zone;
 use std::alloc::Global;
 
-/// The names that exist in the zone, in order, by its records in the order of their owners.
-pub(crate) fn existing_names(alloc: Global, zone: &Zone, rrs: &[&Rr]) -> Result<Vec<Name>, NoMemory>
-    requires { AreByOwner zone.now (map (λ rr. rr.now) rrs.now) }
+/// The names that exist in the zone, in order, by the runs of its records in the order of their owners.
+pub(crate) fn existing_names(
+    alloc: Global,
+    zone: &Zone,
+    runs: &[KeyedRun<'_>],
+) -> Result<Vec<Name>, NoMemory>
+    requires { AreByOwner zone.now runs.now }
     ensures { IfOk result (λ names. AreExisting zone.now names.items) }
 {
-    let mut names = names_above(alloc, &zone.origin, rrs)?;
+    let mut names = names_above(alloc, &zone.origin, runs)?;
     names.shrink_to_fit();
     Ok(names)
 }
 
-/// The origin, and the prefixes of each owner that don't begin the owner before it.
-fn names_above(alloc: Global, origin: &Name, rrs: &[&Rr]) -> Result<Vec<Name>, NoMemory>
-    ensures { IfOk result (λ names. names.items ≡ origin.now ∷ tree_after origin.now (map (λ rr. rr.owner) (map (λ rr. rr.now) rrs.now))) }
+/// The origin, and the prefixes of each run's owner that don't begin the owner before it.
+fn names_above(alloc: Global, origin: &Name, runs: &[KeyedRun<'_>]) -> Result<Vec<Name>, NoMemory>
+    ensures { IfOk result (λ names. names.items ≡ origin.now ∷ tree_after origin.now (map owner_of runs.now)) }
 {
     let mut names = Vec::new(alloc);
     names.push(origin.copy(alloc)?)?;
     let mut before = origin;
-    for rr in rrs {
-        push_new(alloc, &mut names, before, &rr.owner)?;
-        before = &rr.owner;
+    for run in runs {
+        push_new(alloc, &mut names, before, &run.first.owner)?;
+        before = &run.first.owner;
     }
     Ok(names)
 }

@@ -11,7 +11,6 @@ ghost use Rattle.net_model.specs.Zone.{data_cmp};
 ghost use Rattle.zone_tree.specs.Merged.{put_each, placed};
 ghost use Rattle.zone_tree.specs.Records.{targets_of};
 
-use crate::few::Few;
 use crate::records::{first_of_type, is_of_type, target_of};
 use crate::texts::{data_order, text_of};
 use dns_data::{List, Name, NoMemory, Octets, Rdata, Rr, RrType};
@@ -23,32 +22,17 @@ use std::collections::{BTreeMap, BTreeSet};
 const MOST_PLACED: usize = 16;
 
 /// The names of the name servers in the order of names.
-pub(crate) fn servers_of<'a>(alloc: Global, own: &[&'a Rr]) -> Result<Few<&'a Name>, NoMemory>
-    ensures { IfOk result (λ servers. map (λ server. server.now) servers ≡ in_order name_cmp (targets_of (map (λ rr. rr.now.rdata) own.now) types.Ns)) }
+pub(crate) fn servers_of<'a>(alloc: Global, own: &[&'a Rr]) -> Result<Vec<&'a Name>, NoMemory>
+    ensures { IfOk result (λ servers. map (λ server. server.now) servers.items ≡ in_order name_cmp (targets_of (map (λ rr. rr.now.rdata) own.now) types.Ns)) }
 {
-    let Some((first, later)) = first_of_type(own, RrType::Ns) else {
-        return Ok(Few::new());
+    let Some(_) = first_of_type(own, RrType::Ns) else {
+        return Ok(Vec::new(alloc));
     };
-    if first_of_type(later, RrType::Ns).is_some() {
-        return servers_in_order(alloc, own);
-    }
-    match target_of(first) {
-        Some(server) => Few::new().with(alloc, server),
-        None => Ok(Few::new()),
-    }
-}
-
-/// The names of the name servers of any number of records, in the order of names.
-fn servers_in_order<'a>(alloc: Global, own: &[&'a Rr]) -> Result<Few<&'a Name>, NoMemory>
-    ensures { IfOk result (λ servers. map (λ server. server.now) servers ≡ in_order name_cmp (targets_of (map (λ rr. rr.now.rdata) own.now) types.Ns)) }
-{
     if own.len() <= MOST_PLACED {
-        return Ok(Few::from_vec(placed_servers(alloc, own)?));
+        return placed_servers(alloc, own);
     }
     let set = server_set(alloc, own)?;
-    let mut servers: Vec<&'a Name> = set.into_iter().collect(alloc)?;
-    servers.shrink_to_fit();
-    Ok(Few::from_vec(servers))
+    Ok(set.into_iter().collect(alloc)?)
 }
 
 /// The names of the name servers, each put in its place. The last records are looked at first.
@@ -66,7 +50,6 @@ fn placed_servers<'a>(alloc: Global, own: &[&'a Rr]) -> Result<Vec<&'a Name>, No
             }
         }
     }
-    servers.shrink_to_fit();
     Ok(servers)
 }
 
@@ -118,16 +101,14 @@ pub(crate) fn set_in_order(
     alloc: Global,
     own: &[&Rr],
     rtype: RrType,
-) -> Result<List<Rdata>, NoMemory>
-    ensures { IfOk result (λ set. set ≡ in_order data_cmp (filter (has_type rtype) (map (λ rr. rr.now.rdata) own.now))) }
+) -> Result<Vec<Rdata>, NoMemory>
+    ensures { IfOk result (λ set. set.items ≡ in_order data_cmp (filter (has_type rtype) (map (λ rr. rr.now.rdata) own.now))) }
 {
     if own.len() <= MOST_PLACED && has_targets(rtype) {
-        return Ok(List::from_vec(placed_data(alloc, own, rtype)?));
+        return placed_data(alloc, own, rtype);
     }
     let set = text_map(alloc, own, rtype)?;
-    let mut data: Vec<Rdata> = set.into_values().collect(alloc)?;
-    data.shrink_to_fit();
-    Ok(List::from_vec(data))
+    Ok(set.into_values().collect(alloc)?)
 }
 
 /// Whether the data of a type are a name, of whose text the last label mostly tells the order.
@@ -148,7 +129,6 @@ fn placed_data(alloc: Global, own: &[&Rr], rtype: RrType) -> Result<Vec<Rdata>, 
             put_data(alloc, &mut set, &rr.rdata)?;
         }
     }
-    set.shrink_to_fit();
     Ok(set)
 }
 

@@ -19,10 +19,11 @@ use crate::first_deciders::first_deciders;
 use crate::names::existing_names;
 use crate::node::NodeId;
 use crate::order::merged;
-use crate::owned_data::OwnedData;
-use crate::owners::{records_by_name, rrs_in_order};
+use crate::owned_data::{Owned, OwnedData};
+use crate::owners::records_by_name;
 use crate::preceding::Preceding;
 use crate::records::target_of;
+use crate::runs::runs_in_order;
 use dns_data::{Label, Labels, List, Name, NoMemory, Rdata, RrType, TypeSet};
 use name_table::NameTable;
 use net_model::Zone;
@@ -35,7 +36,7 @@ use std::marker::Model;
 pub struct Tree<'a> {
     zone: &'a Zone,
     names: NameTable,
-    records: Vec<OwnedData<'a>>,
+    records: OwnedData<'a>,
     first_deciders: Vec<NodeId>,
 }
 
@@ -49,7 +50,7 @@ impl<'a> Model for Tree<'a> {
     ghost use Rattle.zone_tree.specs.FirstDecider.{AreFirstDeciders};
     ghost use Rattle.zone_tree.specs.Records.{IsTree};
 
-    ghost invariant = { λ tree. IsTree tree.zone.now tree.names tree.records.items × AreFirstDeciders tree.zone.now tree.names tree.first_deciders.items };
+    ghost invariant = { λ tree. IsTree tree.zone.now tree.names tree.records × AreFirstDeciders tree.zone.now tree.names tree.first_deciders.items };
 }
 
 impl<'a> Tree<'a> {
@@ -57,11 +58,11 @@ impl<'a> Tree<'a> {
     pub fn build(alloc: Global, zone: &'a Zone) -> Result<Tree<'a>, NoMemory>
         ensures { IfOk result (λ tree. tree.zone ≡ zone.now) }
     {
-        let sorted = rrs_in_order(alloc, zone)?;
-        let rrs = sorted.as_slice();
-        let names = existing_names(alloc, zone, rrs)?;
-        let records = records_by_name(alloc, names.as_slice(), rrs)?;
-        let first_deciders = first_deciders(alloc, zone, names.as_slice(), records.as_slice())?;
+        let sorted = runs_in_order(alloc, zone)?;
+        let runs = sorted.as_slice();
+        let names = existing_names(alloc, zone, runs)?;
+        let records = records_by_name(alloc, names.as_slice(), runs)?;
+        let first_deciders = first_deciders(alloc, zone, names.as_slice(), &records)?;
         let table = NameTable::of(alloc, names)?;
         Ok(Tree {
             zone,
@@ -251,10 +252,10 @@ impl<'a> Tree<'a> {
     }
 
     /// What tells of all data of a node's name.
-    fn records(&self, node: NodeId) -> &OwnedData<'a>
+    fn records(&self, node: NodeId) -> Owned<'_, 'a>
         requires { IsNode self.now node }
-        ensures { TellsData (data_of self.now.zone.rrs (name_of self.now node)) result.now }
+        ensures { TellsData (data_of self.now.zone.rrs (name_of self.now node)) result }
     {
-        &self.records[node.place()]
+        self.records.at(node.place())
     }
 }

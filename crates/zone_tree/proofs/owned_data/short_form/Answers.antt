@@ -18,11 +18,11 @@ lacking : {A : Type 0} (found : Option A) (P : Type 0) → is_some found ≡ fal
 lacking None P none holds = holds
 lacking (Some found) P none holds = absurd (true≢false none)
 
-pub returns-in_default : goal.returns-in_default
-returns-in_default c = nothing_told (data_in_order c.args.own.now) c.in_default.ensures.none
+pub returns-in_default-clause-tells : goal.returns-in_default-clause-tells
+returns-in_default-clause-tells c = λ lists. nothing_told lists (data_in_order c.args.own.now) c.in_default.ensures.none
 
-pub returns : goal.returns
-returns c =
+pub returns-clause-tells : goal.returns-clause-tells
+returns-clause-tells c = λ lists.
     let own : RrType = c.in-Some.rtype in
     let all : List Rdata = data_in_order c.args.own.now in
     let later : List Rdata = data_in_order c.in-Some.later.now in
@@ -30,4 +30,4 @@ returns c =
     lacking c.first_typed-else-number.result (HaveSameData later []) (sym c.is_some.ensures ∙ c.if-is_some.false) c.first_typed-else-number.ensures.none in
     let other : type_eq own Ns ≡ false =
     ne_eqb (number_of own) (number_of Ns) (λ same. c.if-number.false (c.number.ensures.number ∙ same ∙ sym c.number-2.ensures.number)) in
-    one_told all own c.in-Some.rdata (alone all later c.in-Some.rdata.now c.in-Some.ensures.some none) c.in-Some.ensures.typed other
+    one_told lists all own c.in-Some.rdata (alone all later c.in-Some.rdata.now c.in-Some.ensures.some none) c.in-Some.ensures.typed other

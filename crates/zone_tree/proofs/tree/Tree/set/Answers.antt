@@ -12,5 +12,5 @@ returns c =
     let zone = c.args.self.now.zone in
     let name = name_of c.args.self.now c.args.node in
     c.set.ensures
-    ∙ (sets_tell (data_of zone.rrs name) c.records.result.now.sets c.records.ensures.sets c.args.t).0
+    ∙ (sets_tell (data_of zone.rrs name) c.records.result.sets c.records.ensures.sets c.args.t).0
     ∙ ap (in_order data_cmp) (sym (data_of_type name c.args.t zone.rrs))
