@@ -10,9 +10,13 @@ pub mod ServerPlaces
 pub mod Sources
 pub mod Steady
 pub mod Steps
+mod KnownLeft
 mod KnownRows
+mod LeftAnswers
+mod LeftRows
 mod ReadAgain
 mod SmallerLimits
+mod TakenRows
 mod Worked
 pub mod RowsRead
 pub mod ZonesGiven

@@ -24,3 +24,5 @@ pub mod Hosted
 pub mod Earlier
 pub mod RowZones
 pub mod FileName
+pub mod Taken
+pub mod Left

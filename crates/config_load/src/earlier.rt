@@ -3,9 +3,8 @@
 ghost use Rattle.std.specs.Prelude.{◌≡◌, ◌≤◌, ℕ, List, true, IfOk, IfSome, OnOk, Some, slice_get};
 ghost use Rattle.io_edges.specs.Files.{FilesTold};
 ghost use Rattle.net_model.specs.Configured.{KeepsWithin};
-ghost use Rattle.config_load.specs.Conf.{zone_read};
 ghost use Rattle.config_load.specs.Earlier.{AreEarlier, HasPut, IsAlike, IsZoneNamed, WasRead};
-ghost use Rattle.config_load.specs.Reading.{Reads};
+ghost use Rattle.config_load.specs.Left.{IsReadLeft, rows_left};
 
 use crate::limits::Limits;
 use crate::loaded::RowFiles;
@@ -14,6 +13,7 @@ use crate::zone::{ReadZone, copied_zone};
 use crate::zone_files::copied_names;
 use dns_data::NoMemory;
 use meta_read::MetaRow;
+use net_model::Zone;
 use std::alloc::Global;
 use std::collections::BTreeMap;
 use std::hash::{FoldHasher, Hasher};
@@ -54,8 +54,9 @@ impl EarlierRows {
         row: &MetaRow,
         rows: &ReadRows,
     ) -> Result<Option<ReadZone>, NoMemory>
-        ensures reads { (meta : List ℕ) (told : FilesTold) → AreEarlier meta told all.now rows.now self.now
-            → IfOk result (λ again. IfSome again (λ read. zone_read meta row.now rows.now.left told ≡ Reads read)) }
+        ensures reads { (meta : List ℕ) (told : FilesTold) (left : Zone → Zone) → ((zone : Zone) → (left zone).origin ≡ zone.origin)
+            → (whole : ReadRows) → rows.now ≡ rows_left left whole → AreEarlier meta told all.now whole self.now
+            → IfOk result (λ again. IfSome again (IsReadLeft meta told row.now left whole)) }
         ensures within { IfOk result (λ again. IfSome again (λ read. KeepsWithin read.zone)) }
     {
         match self.by_number.get(&row_number(row)).copied() {
@@ -95,9 +96,10 @@ impl EarlierRow {
         row: &MetaRow,
         rows: &ReadRows,
     ) -> Result<Option<ReadZone>, NoMemory>
-        ensures reads { (meta : List ℕ) (told : FilesTold)
-            → ((earlier : MetaRow) → slice_get all.now self.row ≡ Some earlier → WasRead meta told earlier rows.now self)
-            → IfOk result (λ again. IfSome again (λ read. zone_read meta row.now rows.now.left told ≡ Reads read)) }
+        ensures reads { (meta : List ℕ) (told : FilesTold) (left : Zone → Zone) → ((zone : Zone) → (left zone).origin ≡ zone.origin)
+            → (whole : ReadRows) → rows.now ≡ rows_left left whole
+            → ((earlier : MetaRow) → slice_get all.now self.row ≡ Some earlier → WasRead meta told earlier whole self)
+            → IfOk result (λ again. IfSome again (IsReadLeft meta told row.now left whole)) }
         ensures within { IfOk result (λ again. IfSome again (λ read. KeepsWithin read.zone)) }
     {
         if !self.is_alike(all, row) || !self.has_room(rows.left) {

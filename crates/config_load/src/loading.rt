@@ -1,21 +1,25 @@
 //! Loading a configuration.
 
-ghost use Rattle.std.specs.Prelude.{◌≡◌, ◌≤◌, ℕ, List, length, IfOk};
+ghost use Rattle.std.specs.Prelude.{◌≡◌, ◌≤◌, ℕ, List, [], length, IfOk};
 ghost use Rattle.dns_data.specs.Answers.{AnswersOr, with_fault};
 ghost use Rattle.io_edges.specs.Counts.{NoneFell};
 ghost use Rattle.io_edges.specs.Files.{FilesTold, StaysTold, TellsAll};
 ghost use Rattle.meta_read.specs.Metadata.{metadata_within};
 ghost use Rattle.config_load.specs.Conf.{conf, conf_within, loaded_within, metadata};
 ghost use Rattle.config_load.specs.Faults.{FailedAt, of_metadata};
+ghost use Rattle.config_load.specs.Left.{HasLeft, loaded_left};
 ghost use Rattle.config_load.specs.Load.{Gives, FailedWhereItCame, IsReadFault, IsAnswerTo, NoFailureIn, NoReadFailed, OpensNoOther};
 ghost use Rattle.config_load.specs.Reading.{Misses, Unknown};
 ghost use Rattle.config_load.specs.Sources.{HasAnswered};
+ghost use Rattle.config_load.specs.Taken.{AreTaken, GivesLeft, config_left};
+ghost use Rattle.net_model.specs.Reading.{zones};
 
 use crate::fault::LoadFault;
 use crate::file::read_whole;
 use crate::limits::Limits;
 use crate::loaded::Loaded;
 use crate::rows::read_rows;
+use crate::taker::{WholeZones, ZoneTaker};
 use io_edges::Files;
 use meta_read::{Meta, read_metadata_within};
 use net_model::Config;
@@ -107,6 +111,54 @@ pub fn load_with_files<F: Files>(
     read_loaded(alloc, limits, files, meta)
 }
 
+/// What `load_within` gives, with each zone as the taker leaves it, which takes a zone before the files of the next row are
+/// opened. One that several rows name may be taken once.
+pub fn load_taken<F: Files, T: ZoneTaker>(
+    alloc: Global,
+    limits: Limits,
+    files: &mut F,
+    meta: &str,
+    taker: &mut T,
+) -> Result<Config, LoadFault>
+    requires { T.took taker.old taker.old [] }
+
+    // What it answers is what is left of what the files give, by what is told of them after the call and by whatever tells
+    // more.
+    ensures gives { GivesLeft (T.left_of taker.old) (T.took taker.old taker.new) (conf_within limits meta.now (F.told files.new)) result }
+    ensures later { (later : FilesTold) → StaysTold (F.told files.new) later
+        → GivesLeft (T.left_of taker.old) (T.took taker.old taker.new) (conf_within limits meta.now later) result }
+
+    // A failed read has its cause in a count, and comes before no refusal.
+    ensures cause { FailedAt (F.faults files.old) (F.faults files.new) result }
+    ensures order { FailedWhereItCame (conf_within limits meta.now) (F.told files.new) result }
+    ensures misses { (file : List ℕ) → conf_within limits meta.now (F.told files.new) ≡ Misses file → IsReadFault result }
+    ensures unknown { (file : List ℕ) → conf_within limits meta.now (F.told files.new) ≡ Unknown file → IsReadFault result }
+
+    // What the call does to the source. One that told all from the start tells the same after the call.
+    ensures stays { StaysTold (F.told files.old) (F.told files.new) }
+    ensures from_the_start { TellsAll (F.told files.old) → F.told files.new ≡ F.told files.old }
+    ensures opens { OpensNoOther (conf_within limits meta.now) (F.told files.old) (F.told files.new) }
+    ensures never_fall { NoneFell (F.faults files.old) (F.faults files.new) }
+{
+    read_taken(alloc, limits, files, meta, taker)
+}
+
+/// What is left of the configuration that the files give, whose zones the taker takes.
+fn read_taken<F: Files, T: ZoneTaker>(
+    alloc: Global,
+    limits: Limits,
+    files: &mut F,
+    meta: &str,
+    taker: &mut T,
+) -> Result<Config, LoadFault>
+    requires { T.took taker.old taker.old [] }
+    ensures { HasLeft (F.told files.old) (F.told files.new) (F.faults files.old) (F.faults files.new) (conf_within limits meta.now)
+        (config_left (T.left_of taker.old)) (λ config. AreTaken (T.took taker.old taker.new) (zones config)) result }
+{
+    let all = read_left(alloc, limits, files, meta, taker)?;
+    Ok(all.config)
+}
+
 /// The configuration that the files give.
 fn read_config<F: Files>(
     alloc: Global,
@@ -129,8 +181,23 @@ fn read_loaded<F: Files>(
 ) -> Result<Loaded, LoadFault>
     ensures { HasAnswered (F.told files.old) (F.told files.new) (F.faults files.old) (F.faults files.new) (loaded_within limits meta.now) result }
 {
+    read_left(alloc, limits, files, meta, &mut WholeZones)
+}
+
+/// What is left of what the files give, whose zones the taker takes.
+fn read_left<F: Files, T: ZoneTaker>(
+    alloc: Global,
+    limits: Limits,
+    files: &mut F,
+    meta: &str,
+    taker: &mut T,
+) -> Result<Loaded, LoadFault>
+    requires { T.took taker.old taker.old [] }
+    ensures { HasLeft (F.told files.old) (F.told files.new) (F.faults files.old) (F.faults files.new) (loaded_within limits meta.now)
+        (loaded_left (T.left_of taker.old)) (λ all. AreTaken (T.took taker.old taker.new) (zones all.config)) result }
+{
     let found = read_meta(alloc, limits, files, meta)?;
-    let rows = read_rows(alloc, limits, files, meta, found.rows.items())?;
+    let rows = read_rows(alloc, limits, files, meta, found.rows.items(), taker)?;
     let servers = rows.servers.into_list();
     Ok(Loaded {
         config: Config {

@@ -1,22 +1,24 @@
 //! Rows of the metadata.
 
-ghost use Rattle.std.specs.Prelude.{◌≡◌, ◌≤◌, length, IfSome};
+ghost use Rattle.std.specs.Prelude.{◌≡◌, ◌≤◌, List, [], ◌∷◌, ◌++◌, length, IfOk, IfSome, OnOk};
 ghost use Rattle.dns_data.specs.Answers.{AnswersOr};
 ghost use Rattle.net_model.specs.Configured.{KeepsWithin};
-ghost use Rattle.config_load.specs.Conf.{no_rows, with_row, with_rows, zone_read};
-ghost use Rattle.config_load.specs.Reading.{Reads};
+ghost use Rattle.config_load.specs.Conf.{no_rows, with_rows, zone_read};
+ghost use Rattle.config_load.specs.Left.{HasLeft, IsReadLeft, read_left, rows_left, zones_in};
 ghost use Rattle.config_load.specs.RowRead.{row_read};
-ghost use Rattle.config_load.specs.Sources.{HasAnswered};
+ghost use Rattle.config_load.specs.Taken.{AreTaken};
 
 use crate::earlier::EarlierRows;
 use crate::fault::LoadFault;
 use crate::limits::Limits;
 use crate::loaded::RowFiles;
 use crate::servers::Servers;
+use crate::taker::ZoneTaker;
 use crate::zone::{ReadZone, read_zone};
-use dns_data::{List, Name};
+use dns_data::{List, Name, NoMemory};
 use io_edges::Files;
 use meta_read::MetaRow;
+use net_model::Zone;
 use std::alloc::Global;
 
 /// The rows so far, their servers, and what reading these left.
@@ -30,16 +32,19 @@ pub(crate) struct ReadRows {
     pub rows: List<RowFiles>,
 }
 
-/// What all rows give, in order.
-pub(crate) fn read_rows<F: Files>(
+/// What is left of what all rows give, in order: the taker takes each zone that is read.
+pub(crate) fn read_rows<F: Files, T: ZoneTaker>(
     alloc: Global,
     limits: Limits,
     files: &mut F,
     meta: &str,
     all: &[MetaRow],
+    taker: &mut T,
 ) -> Result<ReadRows, LoadFault>
-    requires { length all.now ≤ limits.rows }
-    ensures { HasAnswered (F.told files.old) (F.told files.new) (F.faults files.old) (F.faults files.new) (with_rows meta.now 1 all.now (no_rows limits)) result }
+    requires few { length all.now ≤ limits.rows }
+    requires none { T.took taker.old taker.old [] }
+    ensures { HasLeft (F.told files.old) (F.told files.new) (F.faults files.old) (F.faults files.new) (with_rows meta.now 1 all.now (no_rows limits))
+        (rows_left (T.left_of taker.old)) (λ rows. AreTaken (T.took taker.old taker.new) (zones_in rows.servers)) result }
 {
     let mut rows = ReadRows {
         left: limits,
@@ -50,46 +55,69 @@ pub(crate) fn read_rows<F: Files>(
     for (i, row) in all.iter().enumerate() {
         let again = earlier.zone_again(alloc, all, row, &rows)?;
         let left = rows.left;
-        rows = read_row(alloc, files, meta, i as u32 + 1, row, rows, again)?;
+        let read = read_row(alloc, files, meta, row, left, again, taker)?;
+        rows = with_read(alloc, i as u32 + 1, &row.server, read, rows)?;
         earlier.put(i, row, left, &rows)?;
     }
     Ok(rows)
 }
 
-/// What the rows so far give with one row more, which has this number. What reading its zone gives is known where an
-/// earlier row has the same file and origin.
-fn read_row<F: Files>(
+/// What is left of the zone of a row, with the names of its files and what reading these leaves. What reading its zone gives
+/// is known where an earlier row has the same file and origin.
+fn read_row<F: Files, T: ZoneTaker>(
     alloc: Global,
     files: &mut F,
     meta: &str,
-    number: u32,
     row: &MetaRow,
-    rows: ReadRows,
+    left: Limits,
     again: Option<ReadZone>,
-) -> Result<ReadRows, LoadFault>
-    requires reads { IfSome again (λ read. zone_read meta.now row.now rows.left (F.told files.old) ≡ Reads read) }
-    requires within { IfSome again (λ read. KeepsWithin read.zone) }
-    ensures { HasAnswered (F.told files.old) (F.told files.new) (F.faults files.old) (F.faults files.new) (with_row meta.now number row.now rows) result }
+    taker: &mut T,
+) -> Result<ReadZone, LoadFault>
+    requires { IfSome again (λ read. KeepsWithin read.zone) }
+    ensures reads { (first : T) (whole : ReadRows) → whole.left ≡ left → IfSome again (IsReadLeft meta.now (F.told files.old) row.now (T.left_of taker.old) whole)
+        → AreTaken (T.took first taker.old) (zones_in whole.servers)
+        → HasLeft (F.told files.old) (F.told files.new) (F.faults files.old) (F.faults files.new) (zone_read meta.now row.now left)
+        (read_left (T.left_of taker.old)) (λ read. AreTaken (T.took first taker.new) (zones_in whole.servers ++ read.zone ∷ [])) result }
+    ensures same { OnOk result (T.left_of taker.new ≡ T.left_of taker.old) }
+    ensures within { IfOk result (λ read. KeepsWithin read.zone) }
 {
     match again {
-        Some(read) => with_read(alloc, number, &row.server, read, rows),
-        None => read_new_row(alloc, files, meta, number, row, rows),
+        Some(read) => Ok(read),
+        None => read_new_row(alloc, files, meta, row, left, taker),
     }
 }
 
-/// What the rows so far give with one row more, which has this number and whose files are read.
-fn read_new_row<F: Files>(
+/// What is left of the zone of a row whose files are read.
+fn read_new_row<F: Files, T: ZoneTaker>(
     alloc: Global,
     files: &mut F,
     meta: &str,
-    number: u32,
     row: &MetaRow,
-    rows: ReadRows,
-) -> Result<ReadRows, LoadFault>
-    ensures { HasAnswered (F.told files.old) (F.told files.new) (F.faults files.old) (F.faults files.new) (with_row meta.now number row.now rows) result }
+    left: Limits,
+    taker: &mut T,
+) -> Result<ReadZone, LoadFault>
+    ensures reads { (first : T) (zones : List Zone) → AreTaken (T.took first taker.old) zones
+        → HasLeft (F.told files.old) (F.told files.new) (F.faults files.old) (F.faults files.new) (zone_read meta.now row.now left)
+        (read_left (T.left_of taker.old)) (λ read. AreTaken (T.took first taker.new) (zones ++ read.zone ∷ [])) result }
+    ensures same { OnOk result (T.left_of taker.new ≡ T.left_of taker.old) }
+    ensures within { IfOk result (λ read. KeepsWithin read.zone) }
 {
-    let read = read_zone(alloc, files, meta, row, rows.left)?;
-    with_read(alloc, number, &row.server, read, rows)
+    let read = read_zone(alloc, files, meta, row, left)?;
+    let kept = taken(alloc, read, taker)?;
+    Ok(kept)
+}
+
+/// What is left of a zone that was read.
+fn taken<T: ZoneTaker>(alloc: Global, read: ReadZone, taker: &mut T) -> Result<ReadZone, NoMemory>
+    requires { KeepsWithin read.zone }
+    ensures left { IfOk result (λ left. left ≡ read_left (T.left_of taker.old) read) }
+    ensures took { OnOk result ((first : T) (zones : List Zone) → T.took first taker.old zones → T.took first taker.new (zones ++ read.zone ∷ [])) }
+    ensures same { T.left_of taker.new ≡ T.left_of taker.old }
+    ensures within { IfOk result (λ left. KeepsWithin left.zone) }
+{
+    let ReadZone { zone, names, left } = read;
+    let zone = taker.take(alloc, zone)?;
+    Ok(ReadZone { zone, names, left })
 }
 
 /// The rows so far with one more, which has this number and whose zone was read.

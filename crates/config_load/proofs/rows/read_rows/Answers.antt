@@ -1,99 +1,144 @@
-use Rattle.std.proofs.Common.{◌≡◌, ℕ, ◌+◌, List, drop, length, Result, Ok, refl, ap, ◌∙◌, subst, sym}
+use Rattle.std.proofs.Common.{[], ◌∷◌, ◌++◌, Result, Ok, length, refl, sym, ap, ◌∙◌, subst}
 use Rattle.std.proofs.lemmas.Option.{slice_get_read}
-use Rattle.meta_read.specs.declared.meta.MetaRow.{MetaRow}
-use Rattle.config_load.specs.Conf.{with_row, with_rows, no_rows}
-use Rattle.config_load.specs.Follows.{Follows}
-use Rattle.config_load.specs.Sources.{ReadsFor, HasAnswered}
+use Rattle.net_model.specs.declared.config.Zone.{Zone}
+use Rattle.config_load.specs.Conf.{no_rows, with_rows, zone_read}
+use Rattle.config_load.specs.Left.{HasLeft, read_left, rows_left, zones_in}
+use Rattle.config_load.specs.Taken.{AreTaken}
 use Rattle.config_load.specs.declared.fault.LoadFault.{LoadFault}
-use Rattle.config_load.specs.declared.loaded.RowFiles.{RowFiles}
-use Rattle.config_load.specs.declared.rows.ReadRows.{ReadRows}
-use Rattle.config_load.specs.Reading.{Reads}
-use Rattle.config_load.proofs.Answered.{Gives-answers}
-use Rattle.config_load.proofs.Follows.{Follows-same, Follows-then}
-use Rattle.config_load.proofs.KnownRows.{earlier_more, rows_count}
-use Rattle.config_load.proofs.ReadRows.{HasAnswered-first_row, Follows-first_row, ReadsFor-first_row}
-use Rattle.config_load.proofs.Sources.{ReadsFor-none, ReadsFor-then, HasAnswered-looked, HasAnswered-then, HasAnswered-wanting}
-use Rattle.config_load.proofs.Steps.{rest-more, with_rows-end}
+use Rattle.config_load.specs.declared.zone.ReadZone.{ReadZone}
+use Rattle.config_load.proofs.Follows.{Follows-same}
+use Rattle.config_load.proofs.LeftRows.{left_wanting, none_taken}
+use Rattle.config_load.proofs.Sources.{ReadsFor-none}
+use Rattle.config_load.proofs.Steps.{rest-more}
+use Rattle.config_load.proofs.TakenRows.{all_taken, behind_fails, given_fails, same_left, stands_then, zone_fails}
 use Rattle.config_load.proofs.rows.read_rows.Goals as goal
 
 pub loop-i-init : goal.loop-i-init
 loop-i-init g c =
     let meta = c.args.meta.now in
     let all = c.args.all.now in
+    let none = no_rows c.args.limits in
     let told = g.F.Files.told c.args.files.now in
-    let first : ReadRows = record { left = c.args.limits; servers = c.new.result; rows = c.new-2.result } in
-    let same : no_rows c.args.limits ≡ first = λ i. record { left = c.args.limits; servers = sym c.new.ensures i; rows = sym c.new-2.ensures i } in
+    let taker = c.args.taker.now in
     record {
-      so_far = Follows-same told (with_rows meta 1 all (no_rows c.args.limits)) (with_rows meta 1 all first) (λ other. ap (λ (rows : ReadRows). with_rows meta 1 all rows other) same);
-      source = ReadsFor-none told (g.F.Files.faults c.args.files.now) (with_rows meta 1 all (no_rows c.args.limits));
-      earlier = c.new-earlier.ensures meta told all first;
-      count = ap (λ (rows : List RowFiles). length rows) c.new-2.ensures;
+      stand = record {
+        whole = none;
+        so_far = Follows-same told (with_rows meta 1 all none) (with_rows meta 1 all none) (λ other. refl);
+        source = ReadsFor-none told (g.F.Files.faults c.args.files.now) (with_rows meta 1 all none);
+        earlier_are = c.new-earlier.ensures meta told all none;
+        count = refl;
+        is = λ i. record { left = c.args.limits; servers = c.new.ensures i; rows = c.new-2.ensures i };
+        taken = none_taken (g.T.ZoneTaker.took taker taker) c.requires.none;
+      };
+      same = refl;
     }
 
 pub returns-in_err-again : goal.returns-in_err-again
-returns-in_err-again g c = HasAnswered-wanting c.from_residual.result c.loop-i.invariant.source c.from_residual.ensures.1
+returns-in_err-again g c = left_wanting c.from_residual.result c.loop-i.invariant.stand.source c.from_residual.ensures.1
 
-pub read_row-requires-clause-reads : goal.read_row-requires-clause-reads
-read_row-requires-clause-reads g c = c.in_ok-again.ensures.reads c.args.meta.now (g.F.Files.told c.loop-i.files) c.loop-i.invariant.earlier
+pub returns-in_err-read : goal.returns-in_err-read
+returns-in_err-read g c =
+    let meta = c.args.meta.now in
+    let all = c.args.all.now in
+    let told = g.F.Files.told c.args.files.now in
+    let here = g.F.Files.told c.loop-i.files in
+    let counts = g.F.Files.faults c.args.files.now in
+    let counts' = g.F.Files.faults c.loop-i.files in
+    let taker = c.loop-i.taker in
+    let left = g.T.ZoneTaker.left_of c.args.taker.now in
+    let took = g.T.ZoneTaker.took c.args.taker.now taker in
+    let stand = c.loop-i.invariant.stand in
+    let rest = rest-more all c.loop-i.i c.index-all-i.result c.loop-i-test.true c.index-all-i.is in
+    let known = c.in_ok-again.ensures.reads meta here (g.T.ZoneTaker.left_of taker) (g.met.T.ZoneTaker.origin taker) stand.whole
+    (stand.is ∙ ap (λ (l : Zone → Zone). rows_left l stand.whole) (sym c.loop-i.invariant.same)) stand.earlier_are in
+    zone_fails meta all c.args.limits told here counts counts' left took c.loop-i.i c.loop-i.rows c.loop-i.earlier stand c.index-all-i.result rest
+    (g.F.Files.told c.read_row.new.files) (g.F.Files.faults c.read_row.new.files) c.in_err-read.field-0.0 c.from_residual-in_err-read.result c.from_residual-in_err-read.ensures.1
+    (c.in_err-read.ensures.reads c.args.taker.now stand.whole (same_left meta all c.args.limits told here counts counts' left took c.loop-i.i c.loop-i.rows c.loop-i.earlier stand) known stand.taken)
 
 pub returns-in_err-rows : goal.returns-in_err-rows
 returns-in_err-rows g c =
     let meta = c.args.meta.now in
     let all = c.args.all.now in
-    let i = c.loop-i.i in
-    let old = g.F.Files.told c.loop-i.files in
-    let new = g.F.Files.told c.read_row.new.files in
-    let rest = rest-more all i c.index-all-i.result c.loop-i-test.true c.index-all-i.is in
-    HasAnswered-then {whole = with_rows meta 1 all (no_rows c.args.limits)} {rest = with_rows meta (i + 1) (drop i all) c.loop-i.rows} c.loop-i.invariant.so_far c.loop-i.invariant.source
-    (subst (λ (rows : List MetaRow). HasAnswered old new (g.F.Files.faults c.loop-i.files) (g.F.Files.faults c.read_row.new.files) (with_rows meta (i + 1) rows c.loop-i.rows) c.from_residual-in_err-rows.result) (sym rest)
-    (HasAnswered-first_row meta (i + 1) c.index-all-i.result (drop (i + 1) all) c.loop-i.rows c.in_err-rows.field-0.0 c.from_residual-in_err-rows.result c.from_residual-in_err-rows.ensures.1 c.in_err-rows.ensures))
+    let told = g.F.Files.told c.args.files.now in
+    let here = g.F.Files.told c.loop-i.files in
+    let counts = g.F.Files.faults c.args.files.now in
+    let counts' = g.F.Files.faults c.loop-i.files in
+    let taker = c.loop-i.taker in
+    let left = g.T.ZoneTaker.left_of c.args.taker.now in
+    let took = g.T.ZoneTaker.took c.args.taker.now taker in
+    let took' = g.T.ZoneTaker.took c.args.taker.now c.read_row.new.taker in
+    let stand = c.loop-i.invariant.stand in
+    let row = c.index-all-i.result in
+    let rest = rest-more all c.loop-i.i row c.loop-i-test.true c.index-all-i.is in
+    let there = g.F.Files.told c.read_row.new.files in
+    let counts'' = g.F.Files.faults c.read_row.new.files in
+    let known = c.in_ok-again.ensures.reads meta here (g.T.ZoneTaker.left_of taker) (g.met.T.ZoneTaker.origin taker) stand.whole
+    (stand.is ∙ ap (λ (l : Zone → Zone). rows_left l stand.whole) (sym c.loop-i.invariant.same)) stand.earlier_are in
+    let answer : Result ReadZone LoadFault = Ok c.in_ok-read.read in
+    let has = subst (λ (l : Zone → Zone). HasLeft here there counts' counts'' (zone_read meta row c.loop-i.rows.left) (read_left l) (λ (read : ReadZone). AreTaken took' (zones_in stand.whole.servers ++ read.zone ∷ [])) answer)
+    c.loop-i.invariant.same
+    (c.in_ok-read.ensures.reads c.args.taker.now stand.whole (same_left meta all c.args.limits told here counts counts' left took c.loop-i.i c.loop-i.rows c.loop-i.earlier stand) known stand.taken) in
+    given_fails meta all c.args.limits told here counts counts' left took c.loop-i.i c.loop-i.rows c.loop-i.earlier stand row rest there counts''
+    took' (g.met.T.ZoneTaker.origin c.args.taker.now) c.in_ok-read.read has c.in_err-rows.field-0.0 c.from_residual-in_err-rows.result c.from_residual-in_err-rows.ensures.1 c.in_err-rows.ensures
 
 pub returns-in_err-put : goal.returns-in_err-put
 returns-in_err-put g c =
     let meta = c.args.meta.now in
     let all = c.args.all.now in
-    let i = c.loop-i.i in
-    let old = g.F.Files.told c.loop-i.files in
-    let new = g.F.Files.told c.read_row.new.files in
-    let rest = rest-more all i c.index-all-i.result c.loop-i-test.true c.index-all-i.is in
-    HasAnswered-wanting c.from_residual-in_err-put.result
-    (ReadsFor-then {whole = with_rows meta 1 all (no_rows c.args.limits)} {rest = with_rows meta (i + 1) (drop i all) c.loop-i.rows} c.loop-i.invariant.so_far c.loop-i.invariant.source
-    (subst (λ (rows : List MetaRow). ReadsFor old new (g.F.Files.faults c.loop-i.files) (g.F.Files.faults c.read_row.new.files) (with_rows meta (i + 1) rows c.loop-i.rows)) (sym rest)
-    (ReadsFor-first_row meta (i + 1) c.index-all-i.result (drop (i + 1) all) c.loop-i.rows c.in_ok-rows.ensures.source)))
-    c.from_residual-in_err-put.ensures.1
+    let told = g.F.Files.told c.args.files.now in
+    let here = g.F.Files.told c.loop-i.files in
+    let counts = g.F.Files.faults c.args.files.now in
+    let counts' = g.F.Files.faults c.loop-i.files in
+    let taker = c.loop-i.taker in
+    let left = g.T.ZoneTaker.left_of c.args.taker.now in
+    let took = g.T.ZoneTaker.took c.args.taker.now taker in
+    let took' = g.T.ZoneTaker.took c.args.taker.now c.read_row.new.taker in
+    let stand = c.loop-i.invariant.stand in
+    let row = c.index-all-i.result in
+    let rest = rest-more all c.loop-i.i row c.loop-i-test.true c.index-all-i.is in
+    let there = g.F.Files.told c.read_row.new.files in
+    let counts'' = g.F.Files.faults c.read_row.new.files in
+    let known = c.in_ok-again.ensures.reads meta here (g.T.ZoneTaker.left_of taker) (g.met.T.ZoneTaker.origin taker) stand.whole
+    (stand.is ∙ ap (λ (l : Zone → Zone). rows_left l stand.whole) (sym c.loop-i.invariant.same)) stand.earlier_are in
+    let answer : Result ReadZone LoadFault = Ok c.in_ok-read.read in
+    let has = subst (λ (l : Zone → Zone). HasLeft here there counts' counts'' (zone_read meta row c.loop-i.rows.left) (read_left l) (λ (read : ReadZone). AreTaken took' (zones_in stand.whole.servers ++ read.zone ∷ [])) answer)
+    c.loop-i.invariant.same
+    (c.in_ok-read.ensures.reads c.args.taker.now stand.whole (same_left meta all c.args.limits told here counts counts' left took c.loop-i.i c.loop-i.rows c.loop-i.earlier stand) known stand.taken) in
+    behind_fails meta all c.args.limits told here counts counts' left took c.loop-i.i c.loop-i.rows c.loop-i.earlier stand row rest there counts''
+    took' (g.met.T.ZoneTaker.origin c.args.taker.now) c.in_ok-read.read has c.in_ok-rows.rows c.in_ok-rows.ensures c.from_residual-in_err-put.result c.from_residual-in_err-put.ensures.1
 
 pub loop-i-preserved : goal.loop-i-preserved
 loop-i-preserved g c =
     let meta = c.args.meta.now in
     let all = c.args.all.now in
-    let i = c.loop-i.i in
-    let old = g.F.Files.told c.loop-i.files in
-    let new = g.F.Files.told c.read_row.new.files in
-    let rest = rest-more all i c.index-all-i.result c.loop-i-test.true c.index-all-i.is in
-    let answer : Result ReadRows LoadFault = Ok c.in_ok-rows.rows in
-    let reads : with_row meta (i + 1) c.index-all-i.result c.loop-i.rows new ≡ Reads c.in_ok-rows.rows =
-    Gives-answers new (with_row meta (i + 1) c.index-all-i.result c.loop-i.rows) answer c.in_ok-rows.ensures.answers in
+    let told = g.F.Files.told c.args.files.now in
+    let here = g.F.Files.told c.loop-i.files in
+    let counts = g.F.Files.faults c.args.files.now in
+    let counts' = g.F.Files.faults c.loop-i.files in
+    let taker = c.loop-i.taker in
+    let left = g.T.ZoneTaker.left_of c.args.taker.now in
+    let took = g.T.ZoneTaker.took c.args.taker.now taker in
+    let took' = g.T.ZoneTaker.took c.args.taker.now c.read_row.new.taker in
+    let stand = c.loop-i.invariant.stand in
+    let row = c.index-all-i.result in
+    let rest = rest-more all c.loop-i.i row c.loop-i-test.true c.index-all-i.is in
+    let there = g.F.Files.told c.read_row.new.files in
+    let counts'' = g.F.Files.faults c.read_row.new.files in
+    let known = c.in_ok-again.ensures.reads meta here (g.T.ZoneTaker.left_of taker) (g.met.T.ZoneTaker.origin taker) stand.whole
+    (stand.is ∙ ap (λ (l : Zone → Zone). rows_left l stand.whole) (sym c.loop-i.invariant.same)) stand.earlier_are in
+    let answer : Result ReadZone LoadFault = Ok c.in_ok-read.read in
+    let has = subst (λ (l : Zone → Zone). HasLeft here there counts' counts'' (zone_read meta row c.loop-i.rows.left) (read_left l) (λ (read : ReadZone). AreTaken took' (zones_in stand.whole.servers ++ read.zone ∷ [])) answer)
+    c.loop-i.invariant.same
+    (c.in_ok-read.ensures.reads c.args.taker.now stand.whole (same_left meta all c.args.limits told here counts counts' left took c.loop-i.i c.loop-i.rows c.loop-i.earlier stand) known stand.taken) in
     record {
-      so_far = Follows-then old new (with_rows meta 1 all (no_rows c.args.limits)) (with_rows meta (i + 1) (drop i all) c.loop-i.rows) (with_rows meta (i + 1 + 1) (drop (i + 1) all) c.in_ok-rows.rows) c.in_ok-rows.ensures.source.stays c.loop-i.invariant.so_far
-          (subst (λ (rows : List MetaRow). Follows new (with_rows meta (i + 1) rows c.loop-i.rows) (with_rows meta (i + 1 + 1) (drop (i + 1) all) c.in_ok-rows.rows)) (sym rest)
-          (Follows-first_row meta (i + 1) c.index-all-i.result (drop (i + 1) all) c.loop-i.rows new c.in_ok-rows.rows c.in_ok-rows.ensures.answers));
-      source = ReadsFor-then {whole = with_rows meta 1 all (no_rows c.args.limits)} {rest = with_rows meta (i + 1) (drop i all) c.loop-i.rows} c.loop-i.invariant.so_far c.loop-i.invariant.source
-          (subst (λ (rows : List MetaRow). ReadsFor old new (g.F.Files.faults c.loop-i.files) (g.F.Files.faults c.read_row.new.files) (with_rows meta (i + 1) rows c.loop-i.rows)) (sym rest)
-          (ReadsFor-first_row meta (i + 1) c.index-all-i.result (drop (i + 1) all) c.loop-i.rows c.in_ok-rows.ensures.source));
-      earlier =
-          earlier_more meta all old new (i + 1) i c.index-all-i.result c.loop-i.rows c.in_ok-rows.rows c.loop-i.earlier c.put.new.self c.in_ok-rows.ensures.source.stays
-          c.loop-i.invariant.earlier c.loop-i.invariant.count (slice_get_read all (length all) i c.index-all-i.result refl c.loop-i-test.true c.index-all-i.is) reads c.in_ok-put.ensures;
-      count = rows_count meta new (i + 1) c.index-all-i.result c.loop-i.rows c.in_ok-rows.rows reads ∙ ap (λ (n : ℕ). n + 1) c.loop-i.invariant.count;
+      stand =
+          stands_then meta all c.args.limits told here counts counts' left took c.loop-i.i c.loop-i.rows c.loop-i.earlier stand row rest there counts''
+          took' (g.met.T.ZoneTaker.origin c.args.taker.now) c.in_ok-read.read has c.in_ok-rows.rows c.in_ok-rows.ensures
+          (slice_get_read all (length all) c.loop-i.i row refl c.loop-i-test.true c.index-all-i.is) c.put.new.self c.in_ok-put.ensures;
+      same = c.in_ok-read.ensures.same ∙ c.loop-i.invariant.same;
     }
 
 pub returns : goal.returns
 returns g c =
-    let meta = c.args.meta.now in
-    let all = c.args.all.now in
-    let i = c.loop-i.i in
-    let told = g.F.Files.told c.loop-i.files in
-    let faults = g.F.Files.faults c.loop-i.files in
-    let answer : Result ReadRows LoadFault = Ok c.loop-i.rows in
-    HasAnswered-then {whole = with_rows meta 1 all (no_rows c.args.limits)} {rest = with_rows meta (i + 1) (drop i all) c.loop-i.rows} c.loop-i.invariant.so_far c.loop-i.invariant.source
-    (HasAnswered-looked told faults (with_rows meta (i + 1) (drop i all) c.loop-i.rows) answer tt
-    (Follows-same told (with_rows meta (i + 1) (drop i all) c.loop-i.rows) (λ _. Reads c.loop-i.rows) (λ other. with_rows-end meta all i c.loop-i.rows other c.loop-i-test.false)))
+    all_taken c.args.meta.now c.args.all.now c.args.limits (g.F.Files.told c.args.files.now) (g.F.Files.told c.loop-i.files) (g.F.Files.faults c.args.files.now) (g.F.Files.faults c.loop-i.files)
+    (g.T.ZoneTaker.left_of c.args.taker.now) (g.T.ZoneTaker.took c.args.taker.now c.loop-i.taker) c.loop-i.i c.loop-i.rows c.loop-i.earlier c.loop-i.invariant.stand c.loop-i-test.false

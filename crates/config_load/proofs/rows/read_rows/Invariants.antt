@@ -1,15 +1,11 @@
-use Rattle.std.proofs.Common.{◌≡◌, ◌+◌, drop, length}
-use Rattle.config_load.specs.Conf.{with_rows, no_rows}
-use Rattle.config_load.specs.Earlier.{AreEarlier}
-use Rattle.config_load.specs.Follows.{Follows}
-use Rattle.config_load.specs.Sources.{ReadsFor}
+use Rattle.std.proofs.Common.{◌≡◌}
+use Rattle.config_load.proofs.LeftRows.{StandSoFar}
 use Rattle.config_load.proofs.rows.read_rows.Given as goal
 
--- the rows so far were read, and the others follow; those that are known are among them
+-- the rows so far were read and taken, and the others follow
 abbrev pub invariant-loop-i : goal.invariant-loop-i
 invariant-loop-i g l = record {
-  so_far : Follows (g.F.Files.told l.files) (with_rows l.meta 1 l.all (no_rows l.fn.limits)) (with_rows l.meta (l.i + 1) (drop l.i l.all) l.rows);
-  source : ReadsFor (g.F.Files.told l.fn.files) (g.F.Files.told l.files) (g.F.Files.faults l.fn.files) (g.F.Files.faults l.files) (with_rows l.meta 1 l.all (no_rows l.fn.limits));
-  earlier : AreEarlier l.meta (g.F.Files.told l.files) l.all l.rows l.earlier;
-  count : length l.rows.rows ≡ l.i;
+  stand : StandSoFar l.meta l.all l.fn.limits (g.F.Files.told l.fn.files) (g.F.Files.told l.files) (g.F.Files.faults l.fn.files) (g.F.Files.faults l.files)
+      (g.T.ZoneTaker.left_of l.fn.taker) (g.T.ZoneTaker.took l.fn.taker l.taker) l.i l.rows l.earlier;
+  same : g.T.ZoneTaker.left_of l.taker ≡ g.T.ZoneTaker.left_of l.fn.taker;
 }
