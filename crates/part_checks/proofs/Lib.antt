@@ -1,10 +1,13 @@
 mod Claimed
 mod ConsistentParts
-mod DirectRefusals
+mod LeavingNames
+mod LeftWhole
 mod Meets
 mod Passing
 mod Prefixes
 mod Refusals
 mod Rules
+mod SeenZones
 mod ServerNames
 mod ShorterNames
+mod TakenZones

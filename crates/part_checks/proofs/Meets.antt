@@ -123,10 +123,9 @@ module _ (names : PartNames) where
       is_listed (held_by names) (parent front)
       (subst (Contains (held_by names)) (sym (ap parent at.front_is ∙ parent_is at.above at.label)) at.leaves.held)
 
-  module _ (whole : Config) (all left_zones : List (Bor Zone)) (outside : List Labels)
-      (of_whole : map (λ (zone : Bor Zone). zone.now) all ≡ zones whole)
+  module _ (whole : Config) (left_zones : List (Bor Zone)) (outside : List Labels)
       (of_left : map (λ (zone : Bor Zone). zone.now) left_zones ≡ zones (restricted (held_by names) whole))
-      (passed : All (λ (zone : Bor Zone). All (IsPassed names outside) (zone_names zone.now)) all) where
+      (passed : (zone : Zone) → Contains (zones whole) zone → All (IsPassed names outside) (zone_names zone)) where
     -- what holds of all zones holds of each
     each_zone : (P : Zone → Type 0) (items : List (Bor Zone)) (config : Config) → map (λ (zone : Bor Zone). zone.now) items ≡ zones config
         → All (λ (zone : Bor Zone). P zone.now) items → (zone : Zone) → Contains (zones config) zone → P zone
@@ -148,9 +147,7 @@ module _ (names : PartNames) where
         ]
       where
         in_zone : (zone : Zone) → Contains (zones whole) zone → (one : Labels) → Contains (zone_names zone) one → IsPassed names outside one
-        in_zone zone among one there =
-            All-contains (IsPassed names outside) (zone_names zone) one
-            (each_zone (λ (z : Zone). All (IsPassed names outside) (zone_names z)) all whole of_whole passed zone among) there
+        in_zone zone among one there = All-contains (IsPassed names outside) (zone_names zone) one (passed zone among) there
 
     -- where an origin or owner leaves the held names, there is a name outside beside, that is no longer
     beside : (name : Labels) → Contains (origins_and_owners whole) name → (above : Labels) (label : List ℕ) → LeavesAt (held_by names) name above label
@@ -192,8 +189,8 @@ module _ (names : PartNames) where
         true≢false (sym (is_listed names.away (above ++ label ∷ []) told)
         ∙ (passed_name leaves.start leaves.among).away (above ++ label ∷ []) (leaves_first leaves.start above label leaves.leaves))
 
-    module _ (lasting : All (λ (zone : Bor Zone). is_among (held_by names) zone.now.origin ≡ true
-        → All (λ (rr : Rr). IsLasting names (restricted_zone (held_by names) zone.now) rr.owner) zone.now.rrs) all)
+    module _ (lasting : (zone : Zone) → Contains (zones whole) zone → is_among (held_by names) zone.origin ≡ true
+        → All (λ (rr : Rr). IsLasting names (restricted_zone (held_by names) zone) rr.owner) zone.rrs)
         (met : All (λ (name : Labels). is_among (flat_map (λ (zone : Bor Zone). zone_names zone.now) left_zones) name ≡ true) names.held)
         (led : All (λ (zone : Bor Zone). All (IsLed names whole zone.now) zone.now.rrs) left_zones)
         (apart : All (λ (zone : Bor Zone). All (λ (one : Redirection). All (IsApart one) outside) (zone_redirections zone.now)) left_zones) where
@@ -241,8 +238,7 @@ module _ (names : PartNames) where
       keeps_exists zone rr has origin above label leaves =
           subst (λ (n : Labels). exists_in (restricted_zone (held_by names) zone) n ≡ true) (parent_is above label)
           (All-contains (λ (r : Rr). IsLasting names (restricted_zone (held_by names) zone) r.owner) zone.rrs rr
-          (each_zone (λ (z : Zone). is_among (held_by names) z.origin ≡ true → All (λ (r : Rr). IsLasting names (restricted_zone (held_by names) z) r.owner) z.rrs)
-          all whole of_whole lasting zone has.of_config (is_listed (held_by names) zone.origin origin)) has.of_zone
+          (lasting zone has.of_config (is_listed (held_by names) zone.origin origin)) has.of_zone
           (above ++ label ∷ []) (leaves_first rr.owner above label leaves))
 
       keeps_apart : Keeps whole names Apart

@@ -1,10 +1,12 @@
 -- The prefixes of a name one after another, and the first that passes a test.
-use Rattle.std.proofs.Common.{◌≡◌, ◌∙◌, ℕ, zero, suc, ◌+◌, ◌≤◌, ◌<◌, Bool, true, false, List, [], ◌∷◌, ◌++◌, length, map, take, drop, find, option_map, Contains, Option, Some, None, refl, sym, ap, subst, arith}
+use Rattle.std.proofs.Common.{◌≡◌, ◌∙◌, ℕ, zero, suc, ◌+◌, ◌≤◌, ◌<◌, Bool, true, false, List, [], ◌∷◌, ◌++◌, length, map, take, drop, take_all, find, option_map, Contains, Option, Some, None, refl, sym, ap, subst, inl, inr, append-nil, arith}
 use Rattle.std.proofs.lemmas.List.{drop-map}
-use Rattle.std.proofs.lemmas.Bool.{cond-true, cond-false}
+use Rattle.std.proofs.lemmas.Bool.{cases_lt, cond-true, cond-false}
 use Rattle.dns_data.specs.Name.{Labels, is_among}
+use Rattle.dns_data.proofs.Searches.{find_some}
 use Rattle.net_model.specs.Prefix.{prefixes}
 use Rattle.net_model.proofs.Naming.{from_listed, is_listed}
+use Rattle.net_model.proofs.Prefixes.{prefixes_have}
 use Rattle.part_laws.proofs.Lists.{find_mapped}
 use Rattle.part_laws.proofs.WithPrefixes.{prefixes_there}
 use Rattle.part_laws.specs.Part.{with_prefixes}
@@ -52,6 +54,26 @@ module _ (test : Labels → Bool) (name : Labels) (k : ℕ) where
   -- there is no other
   pub finds_none : find test (prefixes name) ≡ find test (drop k (prefixes name)) → length name < k → None ≡ find test (prefixes name)
   finds_none before high = sym (before ∙ ap (find test) (no_prefix_behind name k high))
+
+  -- the name itself passes it, and no shorter prefix does
+  pub finds_last : find test (prefixes name) ≡ find test (drop k (prefixes name)) → length name ≤ k → test name ≡ true
+      → find test (prefixes name) ≡ Some name
+  finds_last before high passes = elim (cases_lt (length name) k) [
+    | inl past ↦ (
+        let (found, is, ok) = find_some test (prefixes name) name (prefixes_have name name ([], append-nil name)) passes in
+        let clash : None ≡ Some found = finds_none before past ∙ is in
+        absurd cc)
+    | inr last ↦ sym (finds_next name before last (sym (take_all k name high)) passes)
+  ]
+
+  -- nor does the name itself
+  pub finds_no_last : find test (prefixes name) ≡ find test (drop k (prefixes name)) → length name ≤ k → test name ≡ false
+      → None ≡ find test (prefixes name)
+  finds_no_last before high fails = elim (cases_lt (length name) k) [
+    | inl past ↦ finds_none before past
+    | inr last ↦ sym (passes_next name before last (sym (take_all k name high)) fails
+        ∙ ap (find test) (no_prefix_behind name (k + 1) (omega (arith, high))))
+  ]
 
 -- ---- where none passes
 

@@ -2,11 +2,10 @@
 use Rattle.std.proofs.Common.{◌≡◌, ◌∙◌, true, [], ◌∷◌, ◌++◌, length, Contains, sym, ap, subst, inl, inr, arith, append_assoc}
 use Rattle.std.proofs.lemmas.List.{length-append}
 use Rattle.dns_data.specs.Name.{Labels}
-use Rattle.dns_data.proofs.Membership.{from_flat_map}
-use Rattle.net_model.specs.Configured.{AreConsistent}
-use Rattle.net_model.specs.Reading.{ground_of}
+use Rattle.net_model.specs.Configured.{KeepsWithin}
+use Rattle.net_model.specs.Reading.{ground_of, zones}
 use Rattle.net_model.specs.declared.config.Config.{Config}
-use Rattle.net_model.specs.declared.config.Server.{Server}
+use Rattle.net_model.specs.declared.config.Zone.{Zone}
 use Rattle.part_laws.specs.RecordByRecord.{IsHeldOrAway, MeetsEach}
 use Rattle.part_laws.proofs.NamesAlike.{from_based}
 use Rattle.part_laws.proofs.WithPrefixes.{root_there, prefixes_there, met_there}
@@ -50,15 +49,13 @@ module _ (whole : Config) (names : PartNames) (keeps : (rule : PartRule) → Kee
       ]
 
   -- the conditions are met
-  pub meets_each : AreConsistent whole.servers → MeetsEach whole (held_by names)
-  meets_each consistent =
+  pub meets_each : ((zone : Zone) → Contains (zones whole) zone → KeepsWithin zone) → MeetsEach whole (held_by names)
+  meets_each within =
       record {
         root = root_there names.held;
         prefixes = prefixes_there names.held;
         met = met_there names.held whole (keeps Met);
-        within = λ zone rr has.
-            let (server, of_servers, of_server) = from_flat_map (λ (s : Server). s.zones) whole.servers zone has.of_config in
-            (consistent.each server of_servers).within zone of_server rr has.of_zone;
+        within = λ zone rr has. within zone has.of_config rr has.of_zone;
         exist = keeps Exists;
         short = λ name has above label leaves. keeps Short above label (record { start = name; among = has; leaves = leaves });
         apart = λ name has above label leaves. keeps Apart above label (record { start = name; among = has; leaves = leaves });

@@ -1,3 +1,4 @@
+pub use Rattle.config_load.specs.Taken
 pub use Rattle.part_laws.specs.Part
 pub use Rattle.part_names.specs.PartNames
 pub mod Parts
@@ -6,3 +7,5 @@ pub mod Targets
 pub mod Short
 pub mod Rules
 pub mod Claims
+pub mod Marks
+pub mod Taking

@@ -1,67 +1,72 @@
-//! What is left of a configuration where the names of a part are held.
+//! What is left of a configuration whose zones were taken.
 
-ghost use Rattle.std.specs.Prelude.{◌≡◌, true, Contains, IfOk, IfErr, OnOk};
+ghost use Rattle.std.specs.Prelude.{◌≡◌, true, map, Contains, IfOk, IfErr, OnOk};
 ghost use Rattle.dns_data.specs.Name.{Labels};
 ghost use Rattle.net_model.specs.Reading.{ground_of};
 ghost use Rattle.part_laws.specs.Part.{restricted, IsPart};
 ghost use Rattle.part_names.specs.PartNames.{is_own};
+ghost use Rattle.part_checks.specs.Outside.{IsBelowHeld};
 ghost use Rattle.part_checks.specs.Parts.{held_by};
 ghost use Rattle.part_checks.specs.Rules.{IsRefused, Keeps};
+ghost use Rattle.part_checks.specs.Taking.{IsLeftWhole, IsTakenWhole, with_held_zones};
 ghost use Rattle.part_checks.specs.declared.fault.PartRule.{PartRule};
 
 use crate::fault::PartFault;
-use crate::lasting::check_lasting;
-use crate::left::left_of;
+use crate::left::left_servers;
 use crate::limits::{check_apart, check_short};
-use crate::outside::outside_of;
 use crate::sets::NameSets;
 use crate::starts::check_met;
+use crate::taker::PartTaker;
 use crate::targets::check_targets;
 use crate::zones::zones_of;
-use dns_data::Name;
+use dns_data::{Name, NoMemory};
 use net_model::Config;
-use part_names::PartNames;
 use std::alloc::Global;
 
-/// What is left of a configuration, the whole, where the names of a part are held, if they make a part and all own names of
-/// the whole are held; else a condition that doesn't hold, with a name of which it doesn't.
-pub fn part_of(alloc: Global, whole: &Config, names: &PartNames) -> Result<Config, PartFault>
-    ensures left { IfOk result (λ left. left ≡ restricted (held_by names.now) whole.now) }
-    ensures kept { OnOk result ((rule : PartRule) → Keeps whole.now names.now rule) }
-    ensures part { OnOk result (IsPart whole.now (held_by names.now)) }
-    ensures own { OnOk result ((name : Labels) → Contains (ground_of whole.now).names name → is_own names.now name ≡ true → Contains (held_by names.now) name) }
-    ensures refused { IfErr result (IsRefused whole.now names.now) }
-{
-    // The servers are read, so that it is known here that each record lies within its zone.
-    let _ = whole.servers();
-    let sets = NameSets::build(alloc, names)?;
-    let left = left_of(alloc, whole, &sets)?;
-    check_part(alloc, whole, &left, &sets, names.held.items())?;
-    Ok(left)
+impl<'a> PartTaker<'a> {
+    /// What is left of a configuration, the whole, whose zones were taken, where the names of the part are held, if they make
+    /// a part and all own names of the whole are held; else a condition that doesn't hold, with a name of which it doesn't.
+    pub fn part_of(&self, alloc: Global, taken: Config) -> Result<Config, PartFault>
+        ensures left { (whole : Config) → IsTakenWhole self.now whole taken → IfOk result (λ left. left ≡ restricted (held_by self.now.names) whole) }
+        ensures kept { (whole : Config) → IsTakenWhole self.now whole taken → OnOk result ((rule : PartRule) → Keeps whole self.now.names rule) }
+        ensures part { (whole : Config) → IsTakenWhole self.now whole taken → OnOk result (IsPart whole (held_by self.now.names)) }
+        ensures own { (whole : Config) → IsTakenWhole self.now whole taken
+            → OnOk result ((name : Labels) → Contains (ground_of whole).names name → is_own self.now.names name ≡ true → Contains (held_by self.now.names) name) }
+        ensures refused { (whole : Config) → IsTakenWhole self.now whole taken → IfErr result (IsRefused whole self.now.names) }
+    {
+        if let Some((rule, name)) = &self.broken {
+            return Err(PartFault::Breaks(*rule, name.copy(alloc)?));
+        }
+        let left = left_of(alloc, &self.sets, taken)?;
+        check_part(alloc, &left, &self.sets, self.outside.items())?;
+        Ok(left)
+    }
 }
 
-/// Checks that the names make a part, whose own names are held, where this is left.
+/// What is left of a configuration whose zones were taken: the zones go whose origins aren't held.
+fn left_of(alloc: Global, sets: &NameSets<'_>, taken: Config) -> Result<Config, NoMemory>
+    ensures { IfOk result (λ left. left ≡ record { tops = taken.tops; servers = map (with_held_zones (held_by sets.now)) taken.servers }) }
+{
+    let Config { tops, servers } = taken;
+    let servers = left_servers(alloc, sets, servers)?;
+    Ok(Config { tops, servers })
+}
+
+/// Checks what is asked of what is left of a configuration whose zones were taken, of which these are the names outside.
 fn check_part(
     alloc: Global,
-    whole: &Config,
     left: &Config,
     sets: &NameSets<'_>,
-    held: &[Name],
+    outside: &[Name],
 ) -> Result<(), PartFault>
-    requires left { left.now ≡ restricted (held_by sets.now) whole.now }
-    requires held { held.now ≡ sets.now.held }
-    ensures kept { OnOk result ((rule : PartRule) → Keeps whole.now sets.now rule) }
-    ensures refused { IfErr result (IsRefused whole.now sets.now) }
+    requires { (name : Labels) → Contains outside.now name → IsBelowHeld sets.now name }
+    ensures kept { (whole : Config) → IsLeftWhole sets.now outside.now whole left.now → OnOk result ((rule : PartRule) → Keeps whole sets.now rule) }
+    ensures refused { (whole : Config) → IsLeftWhole sets.now outside.now whole left.now → IfErr result (IsRefused whole sets.now) }
 {
-    let of_whole = zones_of(alloc, whole)?;
     let of_left = zones_of(alloc, left)?;
-    let all = of_whole.as_slice();
-    let left_all = of_left.as_slice();
-    let fronts = outside_of(alloc, sets, all)?;
-    let outside = fronts.items();
-    check_lasting(alloc, sets, all)?;
-    check_met(alloc, left_all, held)?;
-    check_targets(alloc, sets, whole, left_all)?;
-    check_apart(alloc, left_all, outside)?;
+    let zones = of_left.as_slice();
+    check_met(alloc, zones, sets.names().held.items())?;
+    check_targets(alloc, sets, left, zones)?;
+    check_apart(alloc, zones, outside)?;
     check_short(alloc, left, outside)
 }

@@ -1,9 +1,6 @@
-use Rattle.std.proofs.Common.{◌∙◌, Some, inl, inr, sym, ap}
-use Rattle.dns_data.specs.Name.{Labels}
+use Rattle.std.proofs.Common.{◌∙◌, sym}
+use Rattle.part_checks.proofs.LeavingNames.{held_passed}
 use Rattle.part_checks.proofs.outside.put_name.Goals as goal
 
-pub returns-clause-leaves : goal.returns-clause-leaves
-returns-clause-leaves c = λ other has. elim (c.in_ok-put_outside.ensures.added other has) [
-  | inl old ↦ inl old
-  | inr same ↦ inr (sym c.in_ok-front.ensures ∙ (c.in-Some-2.is ∙ ap (λ (n : Labels). Some n) same))
-]
+pub returns-then-has-clause-passed : goal.returns-then-has-clause-passed
+returns-then-has-clause-passed c = held_passed c.args.sets.now c.args.outside.now c.args.name.now (sym c.has.ensures ∙ c.if-has.true)

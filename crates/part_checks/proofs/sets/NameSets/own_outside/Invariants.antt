@@ -1,4 +1,4 @@
-use Rattle.std.proofs.Common.{◌≡◌, ◌&&◌, drop, find}
+use Rattle.std.proofs.Common.{◌≡◌, ◌≤◌, ◌&&◌, length, drop, find}
 use Rattle.dns_data.specs.Name.{Labels}
 use Rattle.net_model.specs.Prefix.{prefixes}
 use Rattle.part_names.specs.PartNames.{is_own}
@@ -7,4 +7,7 @@ use Rattle.part_checks.proofs.sets.NameSets.own_outside.Given as goal
 
 -- no shorter prefix passes
 abbrev pub invariant-loop-count : goal.invariant-loop-count
-invariant-loop-count l = find (λ (above : Labels). is_outside l.self above && is_own l.self above) (prefixes l.name) ≡ find (λ (above : Labels). is_outside l.self above && is_own l.self above) (drop l.count (prefixes l.name))
+invariant-loop-count l = record {
+  behind : length l.front ≤ l.count;
+  passed : find (λ (above : Labels). is_outside l.self above && is_own l.self above) (prefixes l.name) ≡ find (λ (above : Labels). is_outside l.self above && is_own l.self above) (drop l.count (prefixes l.name));
+}
