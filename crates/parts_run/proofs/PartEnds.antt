@@ -1,34 +1,39 @@
--- How a run ends that reads the names of a part behind a configuration.
-use Rattle.std.proofs.Common.{◌≡◌, ◌∙◌, ℕ, ◌+◌, ◌≤◌, ◌<◌, Bool, true, false, cond, List, [], ◌∷◌, length, Some, Result, Ok, Err, sym, subst, ap, inl, inr, refl, arith}
+-- How a run ends that reads the names of a part, and the configuration behind them.
+use Rattle.std.proofs.Common.{◌≡◌, ◌∙◌, ℕ, ◌+◌, ◌≤◌, ◌<◌, Bool, true, false, cond, List, [], ◌∷◌, length, Some, Result, Ok, Err, if◌then◌else◌, nat_eq, sym, subst, ap, inl, inr, refl, arith}
 use Rattle.std.specs.Prelude.{◌⊎◌, ◌^◌, nat_le}
 use Rattle.std.proofs.lemmas.Bool.{leb-true}
 use Rattle.std.proofs.Math.Nat.{min-le_right}
+use lib.Pointwise.{pointwise}
+use Rattle.dns_data.proofs.Names.{label_eq_decides}
 use Rattle.io_edges.specs.Counts.{NoneFell}
 use Rattle.io_edges.specs.Files.{FilesTold, Told, Untold, NotHeld, Holds, StaysTold, TellsAll}
 use Rattle.config_load.specs.Conf.{conf_within}
 use Rattle.config_load.specs.Faults.{FailedAt}
 use Rattle.config_load.specs.Limits.{largest_limits, largest_octets, most_octets}
-use Rattle.config_load.specs.Load.{ComesToFile, FailedWhereItCame, Gives, OpensNoOther}
-use Rattle.config_load.specs.Reading.{Reading, Reads, Refuses, both, file_octets, told_octets}
+use Rattle.config_load.specs.Load.{ComesToFile, FailedWhereItCame, Gives, OpensNoOther, without}
+use Rattle.config_load.specs.Reading.{Reading, Reads, Refuses, Misses, Unknown, ◌>>=◌, file_octets, told_octets}
+use Rattle.config_load.specs.Taken.{GivesLeft, IsLeftOf, config_left}
 use Rattle.config_load.specs.declared.fault.LoadFault.{LoadFault}
 use Rattle.config_load.specs.declared.fault.LoadFault.TheVariants.{TooLong}
 use Rattle.config_load.specs.declared.limits.Limits.{Limits}
 use Rattle.config_load.proofs.Sources.{rose_then}
-use Rattle.config_load.proofs.Steady.{comes_first, comes_second, conf_is_steady, reads_later}
+use Rattle.config_load.proofs.Steady.{comes_later, file_is_steady, reads_later}
 use Rattle.net_model.specs.declared.config.Config.{Config}
-use Rattle.part_names.specs.PartNames.{names_in}
+use Rattle.part_checks.specs.Parts.{held_by}
+use Rattle.part_checks.specs.Taking.{AreSeen, HasTaken, IsTakenWhole, Taking}
+use Rattle.part_laws.specs.Part.{restricted_zone}
 use Rattle.part_names.specs.declared.fault.NamesFault.{NamesFault}
 use Rattle.part_names.specs.declared.fault.NamesFault.TheVariants.{Line, NoMemory}
 use Rattle.part_names.specs.declared.names.PartNames.{PartNames}
 use Rattle.part_run.specs.PartReported.{ReportsPart, faults_status}
 use Rattle.graph_form.specs.declared.report.ReportEntry.{ReportEntry}
 use Rattle.report_run.specs.declared.judging.CheckLimits.{CheckLimits}
-use Rattle.run_endings.proofs.AsAsked.{Says, SaysSo, as_asked, not_loaded, reading_says}
-use Rattle.run_endings.specs.Ends.{EndsOrFails, IsNotLoaded}
+use Rattle.run_endings.proofs.AsAsked.{Says, SaysSo, as_asked, not_loaded, over_read, reading_says}
+use Rattle.run_endings.specs.Ends.{EndsOver, EndsWithout, IsNotLoaded}
 use Rattle.run_endings.specs.Endings.{OfReading, no_memory, refused}
 use Rattle.run_endings.specs.Runs.{FilesOfRun}
 use Rattle.run_endings.specs.declared.ending.Ending.{Ending}
-use Rattle.parts_run.specs.PartTold.{PartFrom, TellsNames, TellsPart, TellsRead, bad_line}
+use Rattle.parts_run.specs.PartTold.{TellsPart, TellsRead, bad_line, behind_names, part_files}
 use Rattle.parts_run.specs.Runs.{JobEnds}
 use Rattle.parts_run.specs.declared.words.PartsJob.TheVariants.{Part}
 
@@ -47,46 +52,81 @@ part_says : (limits : CheckLimits) (file : List ℕ) (config : Config) (names : 
 part_says limits file config names ending (inl (kept, reports)) = reports_say limits.classes limits.rewrites names config ending reports
 part_says limits file config names ending (inr refused) = subst SaysSo (sym refused.says) refl
 
-read_says : (limits : CheckLimits) (file : List ℕ) (config : Config) (read : Result PartNames NamesFault) (ending : Ending) → TellsRead limits file config read ending → SaysSo ending
-read_says limits file config (Ok names) ending tells = part_says limits file config names ending tells
-read_says limits file config (Err (Line line)) ending is = subst SaysSo (sym is) refl
-read_says limits file config (Err NoMemory) ending never = absurd never
+read_says : (limits : CheckLimits) (file : List ℕ) (read : Result (PartNames × Config) NamesFault) (ending : Ending) → TellsRead limits file read ending → SaysSo ending
+read_says limits file (Ok (names, config)) ending tells = part_says limits file config names ending tells
+read_says limits file (Err (Line line)) ending is = subst SaysSo (sym is) refl
+read_says limits file (Err NoMemory) ending never = absurd never
 
-pub told_says : (limits : CheckLimits) (told : FilesTold) (file : List ℕ) (config : Config) (ending : Ending) → PartFrom limits told file config ending → SaysSo ending
-told_says limits told file config ending =
-    reading_says file (TellsNames limits file config) ending (λ octets. read_says limits file config (names_in octets) ending) (file_octets largest_limits file told)
+-- ---- a reading behind that of a file
 
--- ---- a reading behind that of a configuration
+module _ {T : Type 0} (limits : Limits) (file : List ℕ) (next : FilesTold → List ℕ → Reading T) where
+  -- the reading of the file
+  abbrev first : FilesTold → Reading (List ℕ)
+  first = file_octets limits file
 
-module _ {T : Type 0} (limits : Limits) (meta : List ℕ) (second : FilesTold → Reading T) (of_config : Config → Ending → Type 0) (ending : Ending) where
-  abbrev first : FilesTold → Reading Config
-  first = conf_within limits meta
+  -- the reading of the file, and what follows
+  abbrev all : FilesTold → Reading T
+  all told = first told >>= next told
 
-  -- a run that read its configuration ends by the configuration, or as the second reading says
-  pub over_both : (between told : FilesTold) (before middle after : List ℕ → ℕ) (config : Config) → first between ≡ Reads config → StaysTold between told → NoneFell before middle
-      → EndsOrFails (of_config config ending) (ComesToFile second told) middle after ending
-      → EndsOrFails (OfReading meta of_config (first told) ending) (ComesToFile (both first second) told) before after ending
-  over_both between told before middle after config reads stays none ends = by ends where
-    later : first told ≡ Reads config
-    later = reads_later (conf_is_steady limits meta) between told config stays reads
+  -- without another file the file's octets are what they were
+  first_without : (told : FilesTold) (other : List ℕ) → (first (without other told) ≡ first told) ⊎ ComesToFile first told other
+  first_without told other = by (pointwise nat_eq file other) refl where
+    by : (b : Bool) → pointwise nat_eq file other ≡ b → (first (without other told) ≡ first told) ⊎ ComesToFile first told other
+    by true e =
+        inr (ap (λ (b : Bool). told_octets limits file (if b then Untold else told file)) e
+        ∙ ap {B = Reading (List ℕ)} Unknown ((label_eq_decides file other).0 e))
+    by false e = inl (ap (λ (b : Bool). told_octets limits file (if b then Untold else told file)) e)
 
-    by : EndsOrFails (of_config config ending) (ComesToFile second told) middle after ending
-        → EndsOrFails (OfReading meta of_config (first told) ending) (ComesToFile (both first second) told) before after ending
-    by (inl outcome) = inl (subst (λ (read : Reading Config). OfReading meta of_config read ending) (sym later) outcome)
-    by (inr (inl (file, is, comes, rose))) =
-        inr (inl (file, is, comes_second first second (conf_is_steady limits meta) told config file later comes, rose_then (before file) (middle file) (after file) (none file) rose))
-    by (inr (inr ran_out)) = inr (inr ran_out)
+  -- both come to the file, and to those to which what follows comes
+  comes_to_it : (told : FilesTold) (other : List ℕ) → ComesToFile first told other → ComesToFile all told other
+  comes_to_it told other comes = ap (λ (read : Reading (List ℕ)). read >>= next (without other told)) comes
 
-  -- a run to which the first files give no configuration ends as one over both readings does
-  pub over_neither : (told : FilesTold) (before after : List ℕ → ℕ) (fault : LoadFault) → Gives {T = Config} (first told) (Err fault)
-      → FailedWhereItCame {T = Config} first told (Err fault) → FailedAt {T = Config} before after (Err fault) → IsNotLoaded meta fault ending ⊎ (ending ≡ no_memory)
-      → EndsOrFails (OfReading meta of_config (first told) ending) (ComesToFile (both first second) told) before after ending
-  over_neither told before after fault gives came failed is = by (not_loaded meta first told before after ending fault gives came failed is) where
-    by : EndsOrFails ((fault : LoadFault) × (first told ≡ Refuses fault) × (ending ≡ refused meta fault)) (ComesToFile first told) before after ending
-        → EndsOrFails (OfReading meta of_config (first told) ending) (ComesToFile (both first second) told) before after ending
-    by (inl (fault, refuses, is)) = inl (subst (λ (read : Reading Config). OfReading meta of_config read ending) (sym refuses) is)
-    by (inr (inl (file, is, comes, rose))) = inr (inl (file, is, comes_first first second told file comes, rose))
-    by (inr (inr ran_out)) = inr (inr ran_out)
+  comes_behind : (told : FilesTold) (octets other : List ℕ) → first told ≡ Reads octets → ComesToFile (λ told. next told octets) told other → ComesToFile all told other
+  comes_behind told octets other is comes = by (first_without told other) where
+    by : (first (without other told) ≡ first told) ⊎ ComesToFile first told other → ComesToFile all told other
+    by (inl same) = ap (λ (read : Reading (List ℕ)). read >>= next (without other told)) (same ∙ is) ∙ comes
+    by (inr earlier) = comes_to_it told other earlier
+
+  -- no file is opened but those to which both come
+  pub opens_behind : (before between after : FilesTold) (octets : List ℕ) → StaysTold between after → first between ≡ Reads octets
+      → OpensNoOther first before between → OpensNoOther (λ told. next told octets) between after → OpensNoOther all before after
+  opens_behind before between after octets stays is a b other = by (a other) (b other) where
+    by : (between other ≡ before other) ⊎ ComesToFile first between other → (after other ≡ between other) ⊎ ComesToFile (λ told. next told octets) after other
+        → (after other ≡ before other) ⊎ ComesToFile all after other
+    by (inl kept) (inl same) = inl (same ∙ kept)
+    by (inr comes) (inl same) = inr (comes_to_it after other (comes_later (file_is_steady limits file) between after other stays comes))
+    by earlier (inr comes) = inr (comes_behind after octets other (reads_later (file_is_steady limits file) between after octets stays is) comes)
+
+  -- where the file gives nothing, no other is opened
+  pub opens_it : (before after : FilesTold) → OpensNoOther first before after → OpensNoOther all before after
+  opens_it before after a other = by (a other) where
+    by : (after other ≡ before other) ⊎ ComesToFile first after other → (after other ≡ before other) ⊎ ComesToFile all after other
+    by (inl same) = inl same
+    by (inr comes) = inr (comes_to_it after other comes)
+
+  module _ (meta : List ℕ) (of_value : T → Ending → Type 0) (ending : Ending) where
+    -- a run that read the file ends as what follows says
+    pub over_behind : (between told : FilesTold) (before middle after : List ℕ → ℕ) (octets : List ℕ) → first between ≡ Reads octets → StaysTold between told → NoneFell before middle
+        → EndsOver {T = T} meta (λ told. next told octets) of_value told middle after ending → EndsOver {T = T} meta all of_value told before after ending
+    over_behind between told before middle after octets reads stays none ends = by ends where
+      later : first told ≡ Reads octets
+      later = reads_later (file_is_steady limits file) between told octets stays reads
+
+      by : EndsOver {T = T} meta (λ told. next told octets) of_value told middle after ending → EndsOver {T = T} meta all of_value told before after ending
+      by (inl outcome) = inl (subst (λ (read : Reading (List ℕ)). OfReading meta of_value (read >>= next told) ending) (sym later) outcome)
+      by (inr (inl (other, is, comes, rose))) =
+          inr (inl (other, is, comes_behind told octets other later comes, rose_then (before other) (middle other) (after other) (none other) rose))
+      by (inr (inr ran_out)) = inr (inr ran_out)
+
+    -- a run that didn't read the file ends by that
+    pub over_unread : (told : FilesTold) (before after : List ℕ → ℕ) (fault : LoadFault) → Gives {T = List ℕ} (first told) (Err fault)
+        → FailedWhereItCame {T = List ℕ} first told (Err fault) → FailedAt {T = List ℕ} before after (Err fault) → IsNotLoaded meta fault ending ⊎ (ending ≡ no_memory)
+        → EndsOver {T = T} meta all of_value told before after ending
+    over_unread told before after fault gives came failed is = by (not_loaded meta first told before after ending fault gives came failed is) where
+      by : EndsWithout {T = List ℕ} meta first told before after ending → EndsOver {T = T} meta all of_value told before after ending
+      by (inl (fault, refuses, is)) = inl (subst (λ (read : Reading (List ℕ)). OfReading meta of_value (read >>= next told) ending) (sym refuses) is)
+      by (inr (inl (other, is, comes, rose))) = inr (inl (other, is, comes_to_it told other comes, rose))
+      by (inr (inr ran_out)) = inr (inr ran_out)
 
 -- ---- the file of the names
 
@@ -105,28 +145,90 @@ file_is_short limits file told octets here same reads = subst (λ (all : List �
         subst (λ (xs : List ℕ). length xs + 1 < 2 ^ 32) all (omega (arith, few, least))
     within false over e = cc
 
--- the run ends by what is read of the names, or because memory ran out
-pub by_names : (limits : CheckLimits) (file : List ℕ) (config : Config) (octets : List ℕ) (read : Result PartNames NamesFault) (ending : Ending) → names_in octets ≡ read
-    → TellsRead limits file config read ending ⊎ (ending ≡ no_memory) → TellsNames limits file config octets ending ⊎ (ending ≡ no_memory)
-by_names limits file config octets read ending is (inl tells) = inl (subst (λ (r : Result PartNames NamesFault). TellsRead limits file config r ending) (sym is) tells)
-by_names limits file config octets read ending is (inr ran_out) = inr ran_out
+-- ---- the configuration behind the names
 
--- a line that tells no name of a part is what is read of the names
-pub of_bad_line : (limits : CheckLimits) (file : List ℕ) (config : Config) (octets : List ℕ) (fault : NamesFault) (line : ℕ) (ending : Ending) → fault ≡ Line line
-    → (fault ≡ NoMemory) ⊎ (names_in octets ≡ Err fault) → (ending ≡ bad_line file line) ⊎ (ending ≡ no_memory)
-    → TellsNames limits file config octets ending ⊎ (ending ≡ no_memory)
-of_bad_line limits file config octets fault line ending is (inl ran_out) told = absurd (cc)
-of_bad_line limits file config octets fault line ending is (inr refused) told =
-    by_names limits file config octets (Err (Line line)) ending (refused ∙ ap {B = Result PartNames NamesFault} (λ (one : NamesFault). Err one) is) told
+module _ (limits : CheckLimits) (meta file : List ℕ) where
+  -- what follows these names
+  abbrev behind : Result PartNames NamesFault → FilesTold → Reading (Result (PartNames × Config) NamesFault)
+  behind = behind_names meta
 
--- how the run ends that reads a configuration and then the names of a part is how the run of the words ends that ask for it
+  -- the configuration is what files give behind names
+  with_names : (names : PartNames) (ending : Ending) (reading : Reading Config)
+      → OfReading meta (λ config ending. TellsPart limits file config names ending) reading ending
+      → OfReading meta (TellsRead limits file) (reading >>= λ config. Reads (Ok (names, config))) ending
+  with_names names ending (Reads config) tells = tells
+  with_names names ending (Refuses fault) is = is
+  with_names names ending (Misses other) never = never
+  with_names names ending (Unknown other) never = never
+
+  comes_with : (names : PartNames) (told : FilesTold) (other : List ℕ) → ComesToFile (conf_within largest_limits meta) told other → ComesToFile (behind (Ok names)) told other
+  comes_with names told other comes = ap (λ (read : Reading Config). read >>= λ config. Reads (Ok (names, config))) comes
+
+  -- a run over the configuration is one over what files give behind these names
+  pub over_names : (names : PartNames) (read : Result PartNames NamesFault) → read ≡ Ok names → (told : FilesTold) (before after : List ℕ → ℕ) (ending : Ending)
+      → EndsOver {T = Config} meta (conf_within largest_limits meta) (λ config ending. TellsPart limits file config names ending) told before after ending
+      → EndsOver {T = Result (PartNames × Config) NamesFault} meta (behind read) (TellsRead limits file) told before after ending
+  over_names names read same told before after ending ends =
+      subst (λ (one : Result PartNames NamesFault). EndsOver {T = Result (PartNames × Config) NamesFault} meta (behind one) (TellsRead limits file) told before after ending) (sym same) (by ends)
+    where
+      by : EndsOver {T = Config} meta (conf_within largest_limits meta) (λ config ending. TellsPart limits file config names ending) told before after ending
+          → EndsOver {T = Result (PartNames × Config) NamesFault} meta (behind (Ok names)) (TellsRead limits file) told before after ending
+      by (inl outcome) = inl (with_names names ending (conf_within largest_limits meta told) outcome)
+      by (inr (inl (other, is, comes, rose))) = inr (inl (other, is, comes_with names told other comes, rose))
+      by (inr (inr ran_out)) = inr (inr ran_out)
+
+  -- no file is opened behind these names but those to which the configuration comes
+  pub opens_names : (names : PartNames) (read : Result PartNames NamesFault) → read ≡ Ok names → (before after : FilesTold)
+      → OpensNoOther (conf_within largest_limits meta) before after → OpensNoOther (behind read) before after
+  opens_names names read same before after opens =
+      subst (λ (one : Result PartNames NamesFault). OpensNoOther (behind one) before after) (sym same) (λ other. by other (opens other))
+    where
+      by : (other : List ℕ) → (after other ≡ before other) ⊎ ComesToFile (conf_within largest_limits meta) after other → (after other ≡ before other) ⊎ ComesToFile (behind (Ok names)) after other
+      by other (inl kept) = inl kept
+      by other (inr comes) = inr (comes_with names after other comes)
+
+  -- a run over a file in which a line tells no name of a part ends by that
+  pub over_bad_line : (read : Result PartNames NamesFault) (fault : NamesFault) (line : ℕ) → fault ≡ Line line → (fault ≡ NoMemory) ⊎ (read ≡ Err fault)
+      → (told : FilesTold) (before after : List ℕ → ℕ) (ending : Ending) → (ending ≡ bad_line file line) ⊎ (ending ≡ no_memory)
+      → EndsOver {T = Result (PartNames × Config) NamesFault} meta (behind read) (TellsRead limits file) told before after ending
+  over_bad_line read fault line is (inl ran_out) told before after ending ends = absurd (cc)
+  over_bad_line read fault line is (inr bad) told before after ending (inl ends) =
+      inl (subst (λ (one : Result PartNames NamesFault). OfReading meta (TellsRead limits file) (behind one told) ending)
+      (sym (bad ∙ ap {B = Result PartNames NamesFault} (λ (one : NamesFault). Err one) is)) ends)
+  over_bad_line read fault line is (inr bad) told before after ending (inr ran_out) = inr (inr ran_out)
+
+-- ---- the zones of the configuration taken
+
+-- what was left of a configuration when its zones were taken
+taken_whole : (first last : Taking) (whole taken : Config) → AreSeen first [] → IsLeftOf (restricted_zone (held_by first.names)) (HasTaken first last) whole taken
+    → IsTakenWhole last whole taken
+taken_whole first last whole taken none left = record {
+  is = left.is ∙ ap (λ (names : PartNames). config_left (restricted_zone (held_by names)) whole) (sym left.taken.took_them.0);
+  taken = record {
+    taken = left.taken.taken;
+    took_them = left.taken.took_them.1 none;
+    each = left.taken.each;
+    only = left.taken.only;
+  };
+}
+
+-- a run that took the zones of a configuration ends by what is told of it, or because memory ran out
+pub over_taken : (limits : CheckLimits) (meta file : List ℕ) (names : PartNames) (told : FilesTold) (before after : List ℕ → ℕ) (ending : Ending) (first last : Taking) (taken : Config)
+    → AreSeen first []
+    → (let result : Result Config LoadFault = Ok taken in
+    GivesLeft (restricted_zone (held_by first.names)) (HasTaken first last) (conf_within largest_limits meta told) result)
+    → ((whole : Config) → IsTakenWhole last whole taken → TellsPart limits file whole names ending ⊎ (ending ≡ no_memory))
+    → EndsOver {T = Config} meta (conf_within largest_limits meta) (λ config ending. TellsPart limits file config names ending) told before after ending
+over_taken limits meta file names told before after ending first last taken none (whole, reads, left) tells =
+    over_read meta (conf_within largest_limits meta) told before after ending (λ config ending. TellsPart limits file config names ending) whole reads
+    (tells whole (taken_whole first last whole taken none left))
+
+-- how the run ends that reads the names of a part and then a configuration is how the run of the words ends that ask for it
 pub part_ended : (limits : CheckLimits) (meta names : List ℕ) (files : FilesOfRun) (ending : Ending)
-    → EndsOrFails (OfReading meta (PartFrom limits files.told_after names) (conf_within largest_limits meta files.told_after) ending)
-    (ComesToFile (both (conf_within largest_limits meta) (file_octets largest_limits names)) files.told_after) files.failed_before files.failed_after ending
-    → (TellsAll files.told_before → files.told_after ≡ files.told_before)
-    → OpensNoOther (both (conf_within largest_limits meta) (file_octets largest_limits names)) files.told_before files.told_after
+    → EndsOver {T = Result (PartNames × Config) NamesFault} meta (part_files meta names) (TellsRead limits names) files.told_after files.failed_before files.failed_after ending
+    → (TellsAll files.told_before → files.told_after ≡ files.told_before) → OpensNoOther (part_files meta names) files.told_before files.told_after
     → JobEnds (Some (Part meta names limits)) files ending
 part_ended limits meta names files ending ends from_the_start opens =
     as_asked _ _ files ending
-    (reading_says meta (PartFrom limits files.told_after names) ending (λ config. told_says limits files.told_after names config ending) (conf_within largest_limits meta files.told_after))
+    (reading_says meta (TellsRead limits names) ending (λ read. read_says limits names read ending) (part_files meta names files.told_after))
     ends from_the_start opens

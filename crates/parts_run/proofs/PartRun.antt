@@ -1,12 +1,13 @@
 -- What a run writes that is asked for the report of a part.
-use Rattle.std.proofs.Common.{◌≡◌, ◌∙◌, Bool, false, List, [], ◌∷◌, ℕ, map, length, Option, Result, sym, subst, ap, inl, inr, refl, arith}
+use Rattle.std.proofs.Common.{◌≡◌, ◌∙◌, Bool, false, List, [], ◌∷◌, ℕ, map, length, Option, Result, Ok, sym, subst, ap, inl, inr, refl, arith}
 use Rattle.std.proofs.lemmas.Bool.Decides.{nat_tests}
 use Rattle.std.specs.Prelude.{◌⊎◌, not, ◌==◌}
 use Rattle.net_model.specs.declared.config.Config.{Config}
-use Rattle.config_load.specs.Reading.{Reading}
+use Rattle.config_load.specs.Reading.{Reading, Reads, ◌>>=◌}
 use Rattle.part_checks.specs.Parts.{held_by}
 use Rattle.part_form.specs.PartText.{ClassedEntry}
 use Rattle.part_laws.specs.Part.{restricted}
+use Rattle.part_names.specs.PartNames.{names_in}
 use Rattle.part_names.specs.declared.fault.NamesFault.{NamesFault}
 use Rattle.part_names.specs.declared.names.PartNames.{PartNames}
 use Rattle.part_run.specs.PartReported.{ReportsPart, faults_status as entries_status}
@@ -18,7 +19,7 @@ use Rattle.run_endings.specs.declared.ending.Ending.{Ending}
 use Rattle.run_endings.specs.declared.status.Status.{Status}
 use Rattle.run_endings.specs.declared.status.Status.TheVariants as statuses
 use Rattle.parts_run.specs.Outcome.{Outcome, faults_status}
-use Rattle.parts_run.specs.PartTold.{PartFrom, TellsNames, TellsPart, TellsRead}
+use Rattle.parts_run.specs.PartTold.{TellsPart, TellsRead, behind_names, part_files}
 use Rattle.parts_run.specs.Runs.{EndsAsAsked, PassesLimit, RefusesNames, ReportsParts, WritesPart}
 use Rattle.parts_run.specs.Words.{job_of}
 use Rattle.parts_run.specs.declared.words.PartsJob.{PartsJob}
@@ -73,9 +74,13 @@ reports_parts words files out err ending ends status is meta file octets limits 
       | inr ran_out ↦ inr (inr (inr (ap (λ (one : Ending). one.status) ran_out)))
     ])
   where
+    gives : part_files meta file files.told_after ≡ Reads (Ok (names, config))
+    gives =
+        ap (λ (reading : Reading (List ℕ)). reading >>= λ octets. behind_names meta (names_in octets) files.told_after) there
+        ∙ (ap (λ (read : Result PartNames NamesFault). behind_names meta read files.told_after) told
+        ∙ ap (λ (reading : Reading Config). reading >>= λ config. Reads (Ok (names, config))) reads)
+
     tells : Outcome files.told_after (job_of words) ending → TellsPart limits file config names ending
     tells outcome =
-        subst (λ (read : Result PartNames NamesFault). TellsRead limits file config read ending) told
-        (subst (λ (reading : Reading (List ℕ)). OfReading file (TellsNames limits file config) reading ending) there
-        (subst (λ (reading : Reading Config). OfReading meta (PartFrom limits files.told_after file) reading ending) reads
-        (subst (λ (asked : Option PartsJob). Outcome files.told_after asked ending) job outcome)))
+        subst (λ (reading : Reading (Result (PartNames × Config) NamesFault)). OfReading meta (TellsRead limits file) reading ending) gives
+        (subst (λ (asked : Option PartsJob). Outcome files.told_after asked ending) job outcome)

@@ -2,11 +2,8 @@
 use Rattle.std.specs.Prelude.{◌≡◌, ℕ, ◌-◌, Bool, List, [], length, codes, decimal, if◌then◌else◌, Option, Some, None, Result, Ok, Err}
 use Rattle.io_edges.specs.Counts.{Rose}
 use Rattle.io_edges.specs.Files.{FilesTold}
-use Rattle.config_load.specs.Conf.{conf_within}
 use Rattle.config_load.specs.Faults.{name_numbered}
-use Rattle.config_load.specs.Limits.{largest_limits}
 use Rattle.config_load.specs.Load.{ComesToFile}
-use Rattle.config_load.specs.Reading.{both, file_octets}
 use Rattle.config_load.specs.Refusal.{fields_line}
 use Rattle.part_form.specs.Merging.{IsMerged}
 use Rattle.part_form.specs.Stated.{PartStated}
@@ -17,7 +14,7 @@ use Rattle.run_endings.specs.Endings.{OfReading, with_output, without_output}
 use Rattle.run_endings.specs.declared.ending.Ending.{Ending}
 use Rattle.run_endings.specs.declared.status.Status.{Status}
 use Rattle.run_endings.specs.declared.status.Status.TheVariants.{Clean, Faults, Refused, Usage}
-use Rattle.parts_run.specs.PartTold.{PartFrom}
+use Rattle.parts_run.specs.PartTold.{TellsRead, part_files}
 use Rattle.parts_run.specs.Reading.{reports_read}
 use Rattle.parts_run.specs.Words.{usage_line}
 use Rattle.parts_run.specs.declared.words.PartsJob.{PartsJob}
@@ -64,14 +61,14 @@ TellsMerged files (Err file) ending = ending ≡ refused_as file (codes "not-par
 abbrev pub Outcome : FilesTold → Option PartsJob → Ending → Type 0
 Outcome told None ending = ending ≡ without_output Usage usage_line
 Outcome told (Some (Merge files)) ending = OfReading [] (TellsMerged files) (reports_read [] files told) ending
-Outcome told (Some (Part meta names limits)) ending = OfReading meta (PartFrom limits told names) (conf_within largest_limits meta told) ending
+Outcome told (Some (Part meta names limits)) ending = OfReading meta (TellsRead limits names) (part_files meta names told) ending
 
--- The job comes to the file: for `merge` the files before it hold reports; `part` comes to the files of the configuration,
--- and where they give one, to the file of the part's names.
+-- The job comes to the file: for `merge` the files before it hold reports; `part` comes to the file of the part's names, and
+-- where it tells some, to the files of the configuration.
 abbrev pub JobComesTo : FilesTold → Option PartsJob → List ℕ → Type 0
 JobComesTo told None file = ⊥
 JobComesTo told (Some (Merge files)) file = ComesToFile (reports_read [] files) told file
-JobComesTo told (Some (Part meta names limits)) file = ComesToFile (both (conf_within largest_limits meta) (file_octets largest_limits names)) told file
+JobComesTo told (Some (Part meta names limits)) file = ComesToFile (part_files meta names) told file
 
 -- no count of a file rose to which the job comes
 abbrev pub NoJobReadFailed : FilesTold → Option PartsJob → (List ℕ → ℕ) → (List ℕ → ℕ) → Type 0

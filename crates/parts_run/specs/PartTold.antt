@@ -1,10 +1,11 @@
--- What is told of a part of a configuration.
-use Rattle.std.specs.Prelude.{◌≡◌, ◌⊎◌, ℕ, List, [], ◌∷◌, ◌++◌, codes, decimal, Result, Ok, Err}
+-- What is told of a part of a configuration, whose names are read first.
+use Rattle.std.specs.Prelude.{◌≡◌, ◌⊎◌, ℕ, List, ◌++◌, codes, decimal, Result, Ok, Err}
 use Rattle.dns_data.specs.Name.{Labels}
 use Rattle.dns_data.specs.Spelling.{name_text}
 use Rattle.io_edges.specs.Files.{FilesTold}
+use Rattle.config_load.specs.Conf.{conf_within}
 use Rattle.config_load.specs.Limits.{largest_limits}
-use Rattle.config_load.specs.Reading.{file_octets}
+use Rattle.config_load.specs.Reading.{Reading, Reads, ◌>>=◌, file_octets}
 use Rattle.config_load.specs.Refusal.{fields_line}
 use Rattle.net_model.specs.declared.config.Config.{Config}
 use Rattle.part_checks.specs.Rules.{Keeps}
@@ -16,7 +17,7 @@ use Rattle.part_names.specs.declared.fault.NamesFault.TheVariants.{Line, NoMemor
 use Rattle.part_names.specs.declared.names.PartNames.{PartNames}
 use Rattle.part_run.specs.PartReported.{ReportsPart}
 use Rattle.report_run.specs.declared.judging.CheckLimits.{CheckLimits}
-use Rattle.run_endings.specs.Endings.{OfReading, without_output}
+use Rattle.run_endings.specs.Endings.{without_output}
 use Rattle.run_endings.specs.declared.ending.Ending.{Ending}
 use Rattle.run_endings.specs.declared.status.Status.TheVariants.{Refused}
 
@@ -54,15 +55,18 @@ TellsPart limits file config names ending =
     (((rule : PartRule) → Keeps config names rule) × ReportsPart limits.classes limits.rewrites names config ending)
     ⊎ IsRefusedPart file config names ending
 
--- what is told by what the octets of the file tell of the part's names
-abbrev pub TellsRead : CheckLimits → List ℕ → Config → Result PartNames NamesFault → Ending → Type 0
-TellsRead limits file config (Ok names) ending = TellsPart limits file config names ending
-TellsRead limits file config (Err (Line line)) ending = ending ≡ bad_line file line
-TellsRead limits file config (Err NoMemory) ending = ⊥
+-- what follows these names: the configuration of the metadata file; where there are none, nothing more is read
+abbrev pub behind_names : List ℕ → Result PartNames NamesFault → FilesTold → Reading (Result (PartNames × Config) NamesFault)
+behind_names meta (Ok names) told = conf_within largest_limits meta told >>= λ config. Reads (Ok (names, config))
+behind_names meta (Err fault) told = Reads (Err fault)
 
-abbrev pub TellsNames : CheckLimits → List ℕ → Config → List ℕ → Ending → Type 0
-TellsNames limits file config octets = TellsRead limits file config (names_in octets)
+-- What the files of a part give: the names that the file of this name tells, and, where it tells some, the configuration of
+-- the metadata file.
+abbrev pub part_files : List ℕ → List ℕ → FilesTold → Reading (Result (PartNames × Config) NamesFault)
+part_files meta file told = file_octets largest_limits file told >>= λ octets. behind_names meta (names_in octets) told
 
--- what is told of a configuration, by the file of a part's names
-abbrev pub PartFrom : CheckLimits → FilesTold → List ℕ → Config → Ending → Type 0
-PartFrom limits told file config ending = OfReading file (TellsNames limits file config) (file_octets largest_limits file told) ending
+-- what is told by what the files of a part give
+abbrev pub TellsRead : CheckLimits → List ℕ → Result (PartNames × Config) NamesFault → Ending → Type 0
+TellsRead limits file (Ok (names, config)) ending = TellsPart limits file config names ending
+TellsRead limits file (Err (Line line)) ending = ending ≡ bad_line file line
+TellsRead limits file (Err NoMemory) ending = ⊥

@@ -2,22 +2,24 @@
 
 ghost use Rattle.std.specs.Prelude.{◌≡◌, ◌⊎◌, ◌+◌, ◌++◌, ◌<◌, ◌^◌, codes, length, IfOk};
 ghost use Rattle.dns_data.specs.Spelling.{name_text};
+ghost use Rattle.io_edges.specs.Counts.{NoneFell};
 ghost use Rattle.io_edges.specs.Files.{StaysTold, TellsAll};
 ghost use Rattle.config_load.specs.Conf.{conf_within};
 ghost use Rattle.config_load.specs.Limits.{largest_limits};
-ghost use Rattle.config_load.specs.Load.{ComesToFile, OpensNoOther};
-ghost use Rattle.config_load.specs.Reading.{both, file_octets};
+ghost use Rattle.config_load.specs.Load.{OpensNoOther};
 ghost use Rattle.report_run.specs.Judged.{AreLimits};
-ghost use Rattle.run_endings.specs.Ends.{EndsOrFails};
-ghost use Rattle.run_endings.specs.Endings.{OfReading, no_memory};
-ghost use Rattle.parts_run.specs.PartTold.{IsBroken, PartFrom, TellsNames, TellsPart, bad_line, rule_code};
+ghost use Rattle.run_endings.specs.Ends.{EndsOver};
+ghost use Rattle.run_endings.specs.Endings.{no_memory};
+ghost use Rattle.part_checks.specs.Taking.{IsTakenWhole};
+ghost use Rattle.part_names.specs.PartNames.{names_in};
+ghost use Rattle.parts_run.specs.PartTold.{IsBroken, TellsPart, TellsRead, bad_line, behind_names, part_files, rule_code};
 
 use crate::merge::refused;
-use config_load::{Limits, load_within, read_file};
-use dns_data::{Name, NoMemory, Text};
+use config_load::{Limits, load_taken, read_file};
+use dns_data::{List, Name, NoMemory, Text};
 use io_edges::{Files, Gate};
 use net_model::Config;
-use part_checks::{PartFault, PartRule, part_of};
+use part_checks::{PartFault, PartRule, PartTaker};
 use part_names::{NamesFault, PartNames, read_part_names};
 use part_run::write_part;
 use report_run::CheckLimits;
@@ -27,102 +29,122 @@ use std::mem::forget;
 use std::sync::Wait;
 use std::thread::Threads;
 
-/// The report of the part that has the names in a file, of the configuration of a metadata file. The names are read behind
-/// the configuration.
+/// A job for the report of a part: the names of the metadata file of a configuration, the whole, and of the file that tells
+/// the names of the part, and the limits of the check.
+#[derive(Clone, Copy, Debug)]
+pub(crate) struct PartJob<'a> {
+    pub meta: &'a str,
+    pub names: &'a str,
+    pub limits: CheckLimits,
+}
+
+/// The report of the part that has the names in a file, of the configuration of a metadata file. The names are read before
+/// the configuration, of which no more is kept than what the part holds, but for the zone that is read.
 pub(crate) fn part<F: Files, G: Gate + Sync, R: Threads + Wait + Sync>(
     rt: &R,
     alloc: Global,
     files: &mut F,
-    meta: &str,
-    names: &str,
-    limits: CheckLimits,
+    job: PartJob<'_>,
     gate: &G,
 ) -> Ending
-    requires { AreLimits limits }
-    ensures cause { EndsOrFails (OfReading meta.now (PartFrom limits (F.told files.new) names.now) (conf_within largest_limits meta.now (F.told files.new)) result)
-        (ComesToFile (both (conf_within largest_limits meta.now) (file_octets largest_limits names.now)) (F.told files.new)) (F.faults files.old) (F.faults files.new) result }
+    requires { AreLimits job.limits }
+    ensures cause { EndsOver job.entry.meta.now (part_files job.entry.meta.now job.entry.names.now) (TellsRead job.entry.limits job.entry.names.now)
+        (F.told files.new) (F.faults files.old) (F.faults files.new) result }
     ensures from_the_start { TellsAll (F.told files.old) → F.told files.new ≡ F.told files.old }
-    ensures opens { OpensNoOther (both (conf_within largest_limits meta.now) (file_octets largest_limits names.now)) (F.told files.old) (F.told files.new) }
+    ensures opens { OpensNoOther (part_files job.entry.meta.now job.entry.names.now) (F.told files.old) (F.told files.new) }
 {
-    match load_within(alloc, Limits::largest(), files, meta) {
-        Ok(config) => {
-            let ending = of_config(rt, alloc, files, &config, names, limits, gate);
-            // The run ends so, and the records of all zones with it: none is taken apart.
-            forget(config);
-            ending
-        }
-        Err(fault) => Ending::not_loaded(alloc, meta, fault),
+    match read_file(alloc, Limits::largest(), files, job.names) {
+        Ok(octets) => of_octets(rt, alloc, files, job, octets, gate),
+        // No fault here is of the metadata: a file that is too long is told by its own name.
+        Err(fault) => Ending::not_loaded(alloc, job.meta, fault),
     }
 }
 
-/// The report of the part of a configuration that has the names in a file.
-fn of_config<F: Files, G: Gate + Sync, R: Threads + Wait + Sync>(
+/// The report of the part whose names a file with these octets tells.
+fn of_octets<F: Files, G: Gate + Sync, R: Threads + Wait + Sync>(
     rt: &R,
     alloc: Global,
     files: &mut F,
-    config: &Config,
-    names: &str,
-    limits: CheckLimits,
+    job: PartJob<'_>,
+    octets: List<u8>,
     gate: &G,
 ) -> Ending
-    requires { AreLimits limits }
-    ensures cause { EndsOrFails (PartFrom limits (F.told files.new) names.now config.now result)
-        (ComesToFile (file_octets largest_limits names.now) (F.told files.new)) (F.faults files.old) (F.faults files.new) result }
+    requires limits { AreLimits job.limits }
+    requires few { length octets + 1 < 2 ^ 32 }
+    ensures cause { EndsOver job.entry.meta.now (behind_names job.entry.meta.now (names_in octets)) (TellsRead job.entry.limits job.entry.names.now)
+        (F.told files.new) (F.faults files.old) (F.faults files.new) result }
     ensures stays { StaysTold (F.told files.old) (F.told files.new) }
-    ensures from_the_start { TellsAll (F.told files.old) → F.told files.new ≡ F.told files.old }
-    ensures opens { OpensNoOther (file_octets largest_limits names.now) (F.told files.old) (F.told files.new) }
+    ensures opens { OpensNoOther (behind_names job.entry.meta.now (names_in octets)) (F.told files.old) (F.told files.new) }
+    ensures never_fall { NoneFell (F.faults files.old) (F.faults files.new) }
 {
-    match read_file(alloc, Limits::largest(), files, names) {
-        Ok(octets) => {
-            files.let_go_of_all();
-            of_octets(rt, alloc, config, names, octets.items(), limits, gate)
+    match read_part_names(alloc, octets.items()) {
+        Ok(names) => {
+            // The file was read: its octets go before the configuration comes.
+            drop(octets);
+            of_names(rt, alloc, files, job, &names, gate)
         }
-        Err(fault) => Ending::not_loaded(alloc, names, fault),
-    }
-}
-
-/// The report of the part of a configuration whose names a file with these octets tells.
-fn of_octets<G: Gate + Sync, R: Threads + Wait + Sync>(
-    rt: &R,
-    alloc: Global,
-    config: &Config,
-    file: &str,
-    octets: &[u8],
-    limits: CheckLimits,
-    gate: &G,
-) -> Ending
-    requires limits { AreLimits limits }
-    requires few { length octets.now + 1 < 2 ^ 32 }
-    ensures { TellsNames limits file.now config.now octets.now result ⊎ (result ≡ no_memory) }
-{
-    match read_part_names(alloc, octets) {
-        Ok(names) => of_names(rt, alloc, config, file, &names, limits, gate),
-        Err(NamesFault::Line(line)) => bad_line(alloc, file, line),
+        Err(NamesFault::Line(line)) => bad_line(alloc, job.names, line),
         Err(NamesFault::NoMemory) => Ending::no_memory(),
     }
 }
 
-/// The report of the part of a configuration that has these names, or how a run ends since they make no part.
-fn of_names<G: Gate + Sync, R: Threads + Wait + Sync>(
+/// The report of the part that has these names.
+fn of_names<F: Files, G: Gate + Sync, R: Threads + Wait + Sync>(
     rt: &R,
     alloc: Global,
-    config: &Config,
-    file: &str,
+    files: &mut F,
+    job: PartJob<'_>,
     names: &PartNames,
-    limits: CheckLimits,
     gate: &G,
 ) -> Ending
-    requires { AreLimits limits }
-    ensures { TellsPart limits file.now config.now names.now result ⊎ (result ≡ no_memory) }
+    requires { AreLimits job.limits }
+    ensures cause { EndsOver job.entry.meta.now (conf_within largest_limits job.entry.meta.now)
+        (λ config ending. TellsPart job.entry.limits job.entry.names.now config names.now ending) (F.told files.new) (F.faults files.old) (F.faults files.new) result }
+    ensures stays { StaysTold (F.told files.old) (F.told files.new) }
+    ensures opens { OpensNoOther (conf_within largest_limits job.entry.meta.now) (F.told files.old) (F.told files.new) }
+    ensures never_fall { NoneFell (F.faults files.old) (F.faults files.new) }
 {
-    match part_of(alloc, config, names) {
+    let Ok(mut taker) = PartTaker::new(alloc, names) else {
+        return Ending::no_memory();
+    };
+    match load_taken(alloc, Limits::largest(), files, job.meta, &mut taker) {
+        Ok(taken) => {
+            files.let_go_of_all();
+            let ending = of_taken(rt, alloc, job, names, &taker, taken, gate);
+            // The run ends so, and the sets of its names with it: they aren't taken apart.
+            forget(taker);
+            ending
+        }
+        Err(fault) => {
+            forget(taker);
+            Ending::not_loaded(alloc, job.meta, fault)
+        }
+    }
+}
+
+/// The report of the part that has these names, of a configuration whose zones were taken; or how a run ends since they make
+/// no part.
+fn of_taken<G: Gate + Sync, R: Threads + Wait + Sync>(
+    rt: &R,
+    alloc: Global,
+    job: PartJob<'_>,
+    names: &PartNames,
+    taker: &PartTaker<'_>,
+    taken: Config,
+    gate: &G,
+) -> Ending
+    requires limits { AreLimits job.limits }
+    requires names { taker.now.names ≡ names.now }
+    ensures { (whole : Config) → IsTakenWhole taker.now whole taken → TellsPart job.entry.limits job.entry.names.now whole names.now result ⊎ (result ≡ no_memory) }
+{
+    match taker.part_of(alloc, taken) {
         Ok(left) => {
-            let ending = write_part(rt, alloc, names, &left, limits, gate);
+            let ending = write_part(rt, alloc, names, &left, job.limits, gate);
             // As above: what is left isn't taken apart.
             forget(left);
             ending
         }
-        Err(PartFault::Breaks(rule, name)) => broken(alloc, file, rule, &name),
+        Err(PartFault::Breaks(rule, name)) => broken(alloc, job.names, rule, &name),
         Err(PartFault::NoMemory) => Ending::no_memory(),
     }
 }

@@ -10,7 +10,7 @@ ghost use Rattle.parts_run.specs.declared.words.PartsJob.TheVariants.{Merge, Par
 
 use crate::fault::ReadFault;
 use crate::merge::{merged_ending, refused};
-use crate::part::part;
+use crate::part::{PartJob, part};
 use crate::reading::read_reports;
 use crate::words::{PartsJob, read_words, usage_line};
 use dns_data::{NoMemory, Text};
@@ -92,15 +92,12 @@ fn of_part<F: Files, G: Gate + Sync, R: Threads + Wait + Sync>(
     requires { AreLimits limits }
     ensures { JobEnds (Some (Part meta.now names.now limits)) (files_of F.told F.faults files.old files.new) result }
 {
-    part(
-        rt,
-        alloc,
-        files,
-        meta.as_str(),
-        names.as_str(),
+    let job = PartJob {
+        meta: meta.as_str(),
+        names: names.as_str(),
         limits,
-        gate,
-    )
+    };
+    part(rt, alloc, files, job, gate)
 }
 
 /// What the reports of the files of these names give.

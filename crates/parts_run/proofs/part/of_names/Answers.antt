@@ -1,19 +1,31 @@
-use Rattle.std.proofs.Common.{◌≡◌, ◌⊎◌, subst, inl, inr}
-use Rattle.part_checks.specs.Rules.{IsRefused}
+use Rattle.std.proofs.Common.{subst}
+use Rattle.config_load.specs.Conf.{conf_within}
+use Rattle.config_load.specs.declared.limits.Limits.{Limits}
+use Rattle.net_model.specs.declared.config.Config.{Config}
+use Rattle.run_endings.proofs.AsAsked.{over_fault}
+use Rattle.run_endings.specs.Ends.{EndsOver}
+use Rattle.run_endings.specs.declared.ending.Ending.{Ending}
+use Rattle.parts_run.specs.PartTold.{TellsPart}
+use Rattle.parts_run.proofs.PartEnds.{over_taken}
 use Rattle.parts_run.proofs.part.of_names.Goals as goal
 
-pub returns-in-Ok : goal.returns-in-Ok
-returns-in-Ok g c =
-    let ends = c.write_part-ending.ensures c.args.config.now (record { left_is = c.in-Ok.ensures.left; part = c.in-Ok.ensures.part; own = c.in-Ok.ensures.own }) in
-    elim ends [
-      | inl reports ↦ inl (inl (c.in-Ok.ensures.kept, reports))
-      | inr ran_out ↦ inr ran_out
-    ]
+pub returns-in-Ok-load_taken-clause-cause : goal.returns-in-Ok-load_taken-clause-cause
+returns-in-Ok-load_taken-clause-cause g c =
+    let job = c.args.job in
+    let told = g.F.Files.told c.load_taken.new.files in
+    let before = g.F.Files.faults c.args.files.now in
+    let after = g.F.Files.faults c.load_taken.new.files in
+    rw (c.let_go_of_all.ensures.told, c.let_go_of_all.ensures.faults)
+    (over_taken job.limits job.meta.now job.names.now c.args.names.now told before after c.of_taken-ending.result c.in-Ok.taker c.load_taken.new.taker
+    c.in-Ok-load_taken.taken c.in-Ok.ensures.none (rw c.largest.ensures at c.in-Ok-load_taken.ensures.gives) c.of_taken-ending.ensures)
 
-pub returns-in-Err-Breaks : goal.returns-in-Err-Breaks
-returns-in-Err-Breaks g c =
-    let refuted = subst (IsRefused c.args.config.now c.args.names.now) c.in-Err-Breaks.field-0-is c.in-Err-Breaks.ensures.refused in
-    elim (rw c.in-Err-Breaks.field-0-is at c.broken.ensures) [
-      | inl says ↦ inl (inr (record { rule = c.in-Err-Breaks.rule; name = c.in-Err-Breaks.name; fails = refuted; says = says }))
-      | inr ran_out ↦ inr ran_out
-    ]
+pub returns-in-Err-clause-cause : goal.returns-in-Err-clause-cause
+returns-in-Err-clause-cause g c =
+    let job = c.args.job in
+    let told = g.F.Files.told c.load_taken.new.files in
+    let before = g.F.Files.faults c.args.files.now in
+    let after = g.F.Files.faults c.load_taken.new.files in
+    let tells : Config → Ending → Type 0 = λ config ending. TellsPart job.limits job.names.now config c.args.names.now ending in
+    subst (λ (limits : Limits). EndsOver {T = Config} job.meta.now (conf_within limits job.meta.now) tells told before after c.not_loaded.result) c.largest.ensures
+    (over_fault job.meta.now (conf_within c.largest.result job.meta.now) told before after c.not_loaded.result tells
+    c.in-Err.fault c.in-Err.ensures.gives c.in-Err.ensures.order c.in-Err.ensures.cause c.not_loaded.ensures)
