@@ -27,7 +27,7 @@ pub fn carrying()
 
 /// Each name is in one class of a configuration, for which a name of it stands that is no longer than any other; and of
 /// a named name all prefixes are named.
-pub fn classes_are_told()
+pub fn names_have_classes()
     ensures one { (config : Config) (query : Labels) → IsName query → IsInOneClass (ground_of config) query }
     ensures prefixes { (config : Config) (above below : Labels) → IsNamed (ground_of config) (above ++ below) → IsNamed (ground_of config) above }
 {}

@@ -8,7 +8,7 @@ use Rattle.query_classes.specs.declared.tree.ClassRow.{ClassRow}
 use Rattle.query_verdicts.specs.Passed.{NonePasses}
 use Rattle.query_verdicts.specs.Queries.{LimitedQueries, most_states, queries_of}
 use Rattle.report_json.specs.Sites.{scope_text}
-use Rattle.site_checks.specs.Views.{Site, told_by}
+use Rattle.site_checks.specs.Views.{Site, site_findings}
 use Rattle.site_checks.specs.declared.shown.SiteFindings.{SiteFindings}
 use Rattle.run_endings.specs.declared.ending.Ending.{Ending}
 use Rattle.run_endings.specs.declared.status.Status.{Status}
@@ -50,7 +50,7 @@ module _ (subject : Subject) (states : ℕ) (states_are : most_states ≡ states
     -- the ending with the report and what the checks then hold is that of the scope
     pub is_scoped : AreShown queries (classes_of_rows rows) before after
         → (report : Report) → IsReport subject report → (ending : Ending)
-        → ending ≡ scope_with report subject.below (map (told_by []) after) → IsScoped subject before ending
+        → ending ≡ scope_with report subject.below (map (site_findings []) after) → IsScoped subject before ending
     is_scoped shown report is ending written =
         let seen = (of_scoped (λ (q : LimitedQueries). AreShown q (classes_of_rows rows) before after) shown).shown none.no_server in
         record {

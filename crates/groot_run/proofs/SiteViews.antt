@@ -22,7 +22,7 @@ use Rattle.query_verdicts.specs.Queries.{LimitedQueries, ServerPasses, limited_t
 use Rattle.query_verdicts.proofs.ClassesJudged.{some_name}
 use Rattle.query_verdicts.proofs.PassingNames.{class_passes}
 use Rattle.report_json.specs.Sites.{sites_text}
-use Rattle.site_checks.specs.Views.{IsView, AreViews, Site, told_by}
+use Rattle.site_checks.specs.Views.{IsView, AreViews, Site, site_findings}
 use Rattle.site_checks.specs.declared.shown.SiteFindings.{SiteFindings}
 use Rattle.site_checks.specs.declared.views.View.{View}
 use Rattle.site_checks.proofs.OneViews.{one_view}
@@ -131,7 +131,7 @@ module _ (queries : LimitedQueries) (same : queries ≡ limited_to queries.confi
 
   -- a run that showed all classes to the checks ends with what they tell
   pub told : (olds news : List Site) → AreShown queries classes olds news → (ServerPasses queries → ⊥)
-      → (ending : Ending) → ending ≡ with_output Clean (sites_text (map (told_by []) news))
+      → (ending : Ending) → ending ≡ with_output Clean (sites_text (map (site_findings []) news))
       → WithinStates queries.config site_rewrites (TellsFindings queries.config olds ending) ending
   told olds news shown clear ending is =
       let seen = shown.shown clear in

@@ -2,17 +2,17 @@
 use Rattle.std.proofs.Common.{◌≡◌, ◌∙◌, ℕ, List, [], ◌∷◌, ◌++◌, map, ap, ap₂, refl, sym}
 use Rattle.std.specs.List.{AllZip}
 use Rattle.std.proofs.lemmas.List.{map-append, map-id}
-use Rattle.site_checks.specs.Shown.{HasSeen, Tells}
-use Rattle.site_checks.specs.Views.{Site, told_by}
+use Rattle.site_checks.specs.Shown.{HasSeen, AreSiteFindings}
+use Rattle.site_checks.specs.Views.{Site, site_findings}
 use Rattle.site_checks.specs.declared.shown.SiteFindings.{SiteFindings}
 use Rattle.site_checks.specs.declared.views.View.{View}
-use Rattle.site_checks.proofs.Seen.{tell_all, told_after}
+use Rattle.site_checks.proofs.Seen.{all_findings_are, findings_after}
 use Rattle.groot_run.specs.ShownClasses.{SawViews, sites_of}
 
 -- checks that were shown views tell what they meant before
-pub findings_of_sites : (views : List View) (olds news : List Site) → SawViews views olds news → map (told_by []) news ≡ map (told_by views) olds
+pub findings_of_sites : (views : List View) (olds news : List Site) → SawViews views olds news → map (site_findings []) news ≡ map (site_findings views) olds
 findings_of_sites views olds news seen =
-    told_after (λ (site : Site). site.name) (λ (site : Site). site.held) (λ (site : Site). site.step) views olds news seen ∙ ap (map (told_by views)) (map-id olds)
+    findings_after (λ (site : Site). site.name) (λ (site : Site). site.held) (λ (site : Site). site.step) views olds news seen ∙ ap (map (site_findings views)) (map-id olds)
 
 module _ {B : Type 0} (name : B → List ℕ) (held : B → List (List ℕ)) (step : B → List (List ℕ) → View → List (List ℕ)) where
   -- checks that are brought have seen views as what they mean
@@ -33,12 +33,12 @@ module _ {B : Type 0} (name : B → List ℕ) (held : B → List (List ℕ)) (st
   saw_all views (a ∷ own) (b ∷ owns) olds news first seen = (first.0, saw_all views own owns olds news first.1 seen)
 
   -- what checks tell that are brought, and others before them
-  pub findings_of_all : (own : List Site) (brought asked : List B) → asked ≡ brought → (first told all : List SiteFindings) → all ≡ first ++ told → first ≡ map (told_by []) own
-      → AllZip (Tells name held) asked told → all ≡ map (told_by []) (sites_of name held step own brought)
+  pub findings_of_all : (own : List Site) (brought asked : List B) → asked ≡ brought → (first told all : List SiteFindings) → all ≡ first ++ told → first ≡ map (site_findings []) own
+      → AllZip (AreSiteFindings name held) asked told → all ≡ map (site_findings []) (sites_of name held step own brought)
   findings_of_all own brought asked same first told all is first_is tells =
-      is ∙ ap₂ (λ (xs ys : List SiteFindings). xs ++ ys) first_is (tell_all name held step asked told tells ∙ by asked ∙ ap (λ (bs : List B). map (told_by []) (sites_of name held step [] bs)) same)
-      ∙ sym (map-append (told_by []) own (sites_of name held step [] brought))
+      is ∙ ap₂ (λ (xs ys : List SiteFindings). xs ++ ys) first_is (all_findings_are name held step asked told tells ∙ by asked ∙ ap (λ (bs : List B). map (site_findings []) (sites_of name held step [] bs)) same)
+      ∙ sym (map-append (site_findings []) own (sites_of name held step [] brought))
     where
-      by : (bs : List B) → map (λ b. record { title = name b; findings = held b }) bs ≡ map (told_by []) (sites_of name held step [] bs)
+      by : (bs : List B) → map (λ b. record { title = name b; findings = held b }) bs ≡ map (site_findings []) (sites_of name held step [] bs)
       by [] = refl
       by (b ∷ bs) = ap (λ (rest : List SiteFindings). record { title = name b; findings = held b } ∷ rest) (by bs)

@@ -53,7 +53,7 @@ use Rattle.zone_maker.specs.Source.{drill_told}
 use Rattle.report_json.specs.Sites.{sites_text, scope_text}
 use Rattle.site_checks.specs.AOnly.{a_only}
 use Rattle.site_checks.specs.Answering.{answering}
-use Rattle.site_checks.specs.Views.{AreViews, Site, told_by}
+use Rattle.site_checks.specs.Views.{AreViews, Site, site_findings}
 use Rattle.site_checks.specs.declared.views.View.{View}
 use Rattle.report_run.specs.Budgets.{WithinBudgets, WithinNames, WithinStates, WithinSubject}
 use Rattle.groot_run.specs.DrillLine.{drill_line, record_count}
@@ -97,11 +97,11 @@ too_many_walks = without_output Walks (codes "walks: more than " ++ (decimal mos
 
 -- the findings of checks that were shown these views
 abbrev pub findings_written : List Site → List View → Ending
-findings_written sites views = with_output Clean (sites_text (map (told_by views) sites))
+findings_written sites views = with_output Clean (sites_text (map (site_findings views) sites))
 
 -- the report of the scope of a name, with the findings of checks that were shown these views
 abbrev pub scope_written : Report → Labels → List Site → List View → Ending
-scope_written report name sites views = with_output (status_of report.entries) (scope_text report name (map (told_by views) sites))
+scope_written report name sites views = with_output (status_of report.entries) (scope_text report name (map (site_findings views) sites))
 
 -- ---- the outcome of a job
 

@@ -26,7 +26,7 @@ pub fn one_report()
 pub fn query_classes()
     ensures { (config : Config) (rewrites : ℕ) → HasClasses config rewrites }
 {
-    laws::classes_are_told();
+    laws::names_have_classes();
 }
 
 /// By the program, by what is told of the files, and by the checks that the operator brings, a job has at most one outcome.

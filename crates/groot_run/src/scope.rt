@@ -32,7 +32,7 @@ use net_model::Config;
 use query_classes::ClassRow;
 use query_verdicts::{KeptReport, MOST_STATES};
 use report_json::scope_pieces;
-use report_run::{CheckLimits, told};
+use report_run::{CheckLimits, report_by_judge};
 use run_endings::Ending;
 use std::alloc::Global;
 use std::marker::Brand;
@@ -134,7 +134,7 @@ pub(crate) fn text_by_judge<
         rewrites: USUAL_REWRITES,
     };
     match rows_of(alloc, judge, scope, names) {
-        Ok(rows) => match told::<N, EntryText, G, R>(rt, alloc, judge, limits, gate) {
+        Ok(rows) => match report_by_judge::<N, EntryText, G, R>(rt, alloc, judge, limits, gate) {
             Ok(report) => shown(alloc, judge, scope, rows.items(), report, sites),
             Err(ending) => Err(ending),
         },
@@ -193,7 +193,7 @@ fn text_of<W: Watchers>(
     sites: &ShownChecks<W>,
 ) -> Result<List<Octets>, NoMemory>
     ensures { IfOk result (λ pieces. (whole : Report) → KeepsReport kept_text report whole
-        → flat_map (λ piece. piece) pieces ≡ scope_text whole scope.now (map (views.told_by []) (sites_of (λ b. name b) (λ b. held b) (λ b. step b) (W.sites sites.now.own) sites.now.brought.items))) }
+        → flat_map (λ piece. piece) pieces ≡ scope_text whole scope.now (map (views.site_findings []) (sites_of (λ b. name b) (λ b. held b) (λ b. step b) (W.sites sites.now.own) sites.now.brought.items))) }
 {
     let numbers = numbers_of(&report);
     let found = findings(alloc, sites)?;

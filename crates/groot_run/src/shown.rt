@@ -3,13 +3,13 @@
 ghost use Rattle.std.specs.Prelude.{◌≡◌, ◌∷◌, [], ℕ, List, OnOk, IfOk, map};
 ghost use Rattle.std.specs.List.{AllZip};
 ghost use Rattle.site_checks.specs.Shown.{HasSeen};
-ghost use Rattle.site_checks.specs.Views.{Site, told_by};
+ghost use Rattle.site_checks.specs.Views.{Site, site_findings};
 ghost use Rattle.site_checks.specs.declared.views.View.{View as Seen};
 ghost use Rattle.groot_run.specs.Outcome.{own_sites};
 ghost use Rattle.groot_run.specs.ShownClasses.{SawViews, sites_of};
 
 use dns_data::{List, NoMemory};
-use site_checks::{AOnly, Answering, SiteCheck, SiteFindings, View, tell};
+use site_checks::{AOnly, Answering, SiteCheck, SiteFindings, View, all_findings};
 use std::alloc::Global;
 
 /// Checks that no operator brings, in whatever number.
@@ -23,7 +23,7 @@ pub(crate) trait Watchers {
 
     /// What all checks tell, in order.
     fn findings(&self, alloc: Global) -> Result<List<SiteFindings>, NoMemory>
-        ensures { IfOk result (λ found. found ≡ map (told_by []) (sites self.now)) };
+        ensures { IfOk result (λ found. found ≡ map (site_findings []) (sites self.now)) };
 }
 
 /// No check.
@@ -68,7 +68,7 @@ impl Watchers for OwnChecks {
 
 /// The findings of a check.
 fn findings_of<C: SiteCheck>(alloc: Global, check: &C) -> Result<SiteFindings, NoMemory>
-    ensures { IfOk result (λ found. found ≡ told_by [] (record { name = C.name check.now; held = C.held check.now; step = C.step check.now })) }
+    ensures { IfOk result (λ found. found ≡ site_findings [] (record { name = C.name check.now; held = C.held check.now; step = C.step check.now })) }
 {
     Ok(SiteFindings {
         title: check.title(alloc)?,
@@ -115,10 +115,10 @@ pub(crate) fn findings<W: Watchers>(
     alloc: Global,
     sites: &ShownChecks<W>,
 ) -> Result<List<SiteFindings>, NoMemory>
-    ensures { IfOk result (λ found. found ≡ map (told_by []) (sites_of (λ b. name b) (λ b. held b) (λ b. step b) (W.sites sites.now.own) sites.now.brought.items)) }
+    ensures { IfOk result (λ found. found ≡ map (site_findings []) (sites_of (λ b. name b) (λ b. held b) (λ b. step b) (W.sites sites.now.own) sites.now.brought.items)) }
 {
     let mut found = sites.own.findings(alloc)?.into_vec();
-    found.append(&mut tell(alloc, sites.brought.as_slice())?.into_vec())?;
+    found.append(&mut all_findings(alloc, sites.brought.as_slice())?.into_vec())?;
     Ok(List::from_vec(found))
 }
 

@@ -6,7 +6,7 @@ ghost use Rattle.query_classes.specs.ClassList.{AreListed, classes_of_row, class
 ghost use Rattle.query_verdicts.specs.Queries.{WalksLike, limited_to, most_states};
 ghost use Rattle.report_json.specs.Sites.{sites_text};
 ghost use Rattle.run_endings.specs.Endings.{no_memory};
-ghost use Rattle.site_checks.specs.Views.{told_by};
+ghost use Rattle.site_checks.specs.Views.{site_findings};
 ghost use Rattle.report_run.specs.Budgets.{WithinStates};
 ghost use Rattle.groot_run.specs.HeldView.{IsHeld};
 ghost use Rattle.groot_run.specs.Outcome.{TellsFindings, ShowsClasses, site_rewrites};
@@ -88,7 +88,7 @@ fn find_by<W: Watchers>(
 
 /// The text of what the checks tell.
 fn text_of<W: Watchers>(alloc: Global, sites: &ShownChecks<W>) -> Result<Octets, NoMemory>
-    ensures { IfOk result (λ text. text ≡ sites_text (map (told_by []) (sites_of (λ b. name b) (λ b. held b) (λ b. step b) (W.sites sites.now.own) sites.now.brought.items))) }
+    ensures { IfOk result (λ text. text ≡ sites_text (map (site_findings []) (sites_of (λ b. name b) (λ b. held b) (λ b. step b) (W.sites sites.now.own) sites.now.brought.items))) }
 {
     let found = findings(alloc, sites)?;
     sites_text(alloc, found.items())

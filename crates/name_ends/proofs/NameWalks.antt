@@ -16,7 +16,7 @@ use Rattle.plain_resolver.specs.WalkEnds.{end_of}
 use Rattle.plain_resolver.specs.declared.walk_end.WalkEnd.{WalkEnd}
 use Rattle.plain_resolver.proofs.Resolved.{has_more, has_no_more}
 use Rattle.name_ends.specs.Ends.{AreNameEnds, EndSo, ends_among, is_kind, most_walks}
-use Rattle.name_ends.specs.Asked.{ends_in, told_of, type_ends}
+use Rattle.name_ends.specs.Asked.{ends_in, kinds_of, type_ends}
 use Rattle.name_ends.specs.declared.ends.NameEnds.{NameEnds}
 use Rattle.name_ends.specs.declared.ends.TypeEnds.{TypeEnds}
 use Rattle.name_ends.specs.declared.kinds.EndKind.{EndKind}
@@ -33,8 +33,8 @@ kind_end : (kind : EndKind) (walks : List Walk)
 kind_end kind walks = any_end (λ (one : WalkEnd). is_kind kind one.leaf) walks
 
 -- what the ends of walks tell is what is told of the walks
-pub ends_told : (walks : List Walk) → told_of (map end_of walks) ≡ ends_among walks
-ends_told walks =
+pub kinds_among : (walks : List Walk) → kinds_of (map end_of walks) ≡ ends_among walks
+kinds_among walks =
     rw (
       kind_end kinds.Answer walks,
       kind_end kinds.NoData walks,

@@ -51,8 +51,8 @@ some_are n = sym (ap not (let e : (suc n == 0) ≡ false = grind (arith, nat_tes
 -- ---- walks and others
 
 -- what is told of walks and of others, is told of both
-told_both : (walks others : List Walk) → ends_among (walks ++ others) ≡ either_ends (ends_among walks) (ends_among others)
-told_both walks others = λ i. record {
+ends_of_both : (walks others : List Walk) → ends_among (walks ++ others) ≡ either_ends (ends_among walks) (ends_among others)
+ends_of_both walks others = λ i. record {
   answer = list_any-append (λ (walk : Walk). is_kind kinds.Answer walk.leaf) walks others i;
   no_data = list_any-append (λ (walk : Walk). is_kind kinds.NoData walk.leaf) walks others i;
   no_name = list_any-append (λ (walk : Walk). is_kind kinds.NxDomain walk.leaf) walks others i;
@@ -83,7 +83,7 @@ module _ (setting : Setting) (rtype : RrType) where
         settled = all_both states others p.settled q.settled;
         few = omega (arith, p.few, q.few, many, length-append states others);
         told = ap ends_among (flat_map-append walks states others)
-            ∙ told_both (flat_map walks states) (flat_map walks others)
+            ∙ ends_of_both (flat_map walks states) (flat_map walks others)
             ∙ (λ i. either_ends (p.told i) (q.told i));
       }
 
@@ -113,9 +113,9 @@ module _ (setting : Setting) (rtype : RrType) where
     data_end [] origin = refl
     data_end (first ∷ rest) origin = refl
 
-    data_told : (all : List Rdata) → ends_among (record { states = state ∷ []; hops = []; leaf = data_leaf all } ∷ []) ≡ data_ends all
-    data_told [] = refl
-    data_told (first ∷ rest) = refl
+    ends_of_data : (all : List Rdata) → ends_among (record { states = state ∷ []; hops = []; leaf = data_leaf all } ∷ []) ≡ data_ends all
+    ends_of_data [] = refl
+    ends_of_data (first ∷ rest) = refl
 
     module _ (zone : Zone) (cut : Labels) where
       -- the branch to a name server that isn't configured
@@ -137,10 +137,10 @@ module _ (setting : Setting) (rtype : RrType) where
       as_many [] = refl
       as_many (ns ∷ names) = ap suc (as_many names)
 
-      outside_told : (names : List Labels) → ends_among (walks_at (map outside names)) ≡ plain_ends false false false false (not (length names == 0))
-      outside_told [] = refl
-      outside_told (ns ∷ names) =
-          let rest = outside_told names in λ i. record {
+      ends_of_outside : (names : List Labels) → ends_among (walks_at (map outside names)) ≡ plain_ends false false false false (not (length names == 0))
+      ends_of_outside [] = refl
+      ends_of_outside (ns ∷ names) =
+          let rest = ends_of_outside names in λ i. record {
             answer = (rest i).answer;
             no_data = (rest i).no_data;
             no_name = (rest i).no_name;
@@ -232,7 +232,7 @@ module _ (config : Config) (name : Labels) where
         let one = λ (rtype : RrType).
         let all : List Rdata = data_of tree.now owner rtype in
         by_leaf setting rtype state (data_leaf all) (data_ends all)
-        (records_answer setting state rtype tree owner so ∙ data_end setting rtype state all tree.now.zone.origin) (data_told setting rtype state all) in
+        (records_answer setting state rtype tree owner so ∙ data_end setting rtype state all tree.now.zone.origin) (ends_of_data setting rtype state all) in
         (one types.A, one types.Aaaa))
 
     pub refers_seen : (tree : Bor ZoneTree) (cut : ℕ) → IsReply config server name (reply.Refers tree cut) → (seen : SeenEnds)
@@ -250,7 +250,7 @@ module _ (config : Config) (name : Labels) where
         (refers_on setting state rtype tree cut so ∙ all_outside setting rtype state zone at names out.none)
         (outside_settled setting rtype state zone at names)
         (omega (arith, as_many setting rtype state zone at names, out.few))
-        (outside_told setting rtype state zone at names) in
+        (ends_of_outside setting rtype state zone at names) in
         (one types.A, one types.Aaaa))
 
     -- if it is told of such name servers

@@ -21,9 +21,9 @@ use Rattle.name_ends.specs.declared.ends.TypeEnds.{TypeEnds}
 abbrev pub some_kind : EndKind → List WalkEnd → Bool
 some_kind kind ends = list_any (λ one. is_kind kind one.leaf) ends
 
--- what is told of walks by their ends
-abbrev pub told_of : List WalkEnd → TypeEnds
-told_of ends =
+-- the kinds that some of these ends have
+abbrev pub kinds_of : List WalkEnd → TypeEnds
+kinds_of ends =
     record {
       answer = some_kind kinds.Answer ends;
       no_data = some_kind kinds.NoData ends;

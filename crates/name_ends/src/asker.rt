@@ -5,7 +5,7 @@ ghost use Rattle.net_model.specs.Step.{Setting, following};
 ghost use Rattle.name_ends.specs.Asked.{AreKnown, ends_in, type_ends};
 
 use crate::at_once::ends_at_once;
-use crate::ends::{NameEnds, TypeEnds, told_of};
+use crate::ends::{NameEnds, TypeEnds, kinds_of};
 use dns_data::{Name, NoMemory, RrType};
 use plain_resolver::{ResolveFault, ends_at};
 use std::alloc::Global;
@@ -129,7 +129,7 @@ fn type_ends(
     ensures { IfOk result (λ ends. ends ≡ type_ends (following hosts.now rewrites followed.now) name.now rtype) }
 {
     match ends_at(alloc, hosts, rewrites, followed, name, rtype, MOST_WALKS) {
-        Ok(ends) => Ok(Some(told_of(ends.items()))),
+        Ok(ends) => Ok(Some(kinds_of(ends.items()))),
         Err(ResolveFault::WalksPassed) => Ok(None),
         Err(ResolveFault::NoMemory) => Err(NoMemory),
     }

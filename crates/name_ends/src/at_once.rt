@@ -45,7 +45,7 @@ pub(crate) fn ends_at_once(hosts: &Hosts<'_>, name: &Name) -> Option<NameEnds>
 fn seen_at(hosts: &Hosts<'_>, servers: &[Name], name: &Name) -> Option<SeenEnds>
     ensures { IfSome result (AreSeen hosts.now name.now servers.now) }
 {
-    let mut seen = alike(told_of_none());
+    let mut seen = alike(no_ends());
     for server in servers {
         let here = ends_at(hosts, server, name)?;
         seen = either(&seen, &here);
@@ -88,7 +88,7 @@ fn by_servers(names: &[&Name]) -> TypeEnds
     ensures { result ≡ plain_ends false false false false (not (length names.now == 0)) }
 {
     match names {
-        [] => told_of_none(),
+        [] => no_ends(),
         [_, ..] => plain(false, false, false, false, true),
     }
 }
@@ -127,8 +127,8 @@ fn by_data(all: &[Rdata]) -> TypeEnds
     }
 }
 
-/// What is told of no walk.
-fn told_of_none() -> TypeEnds
+/// The kinds of no end.
+fn no_ends() -> TypeEnds
     ensures { result ≡ no_ends }
 {
     plain(false, false, false, false, false)

@@ -1,7 +1,7 @@
 //! What is told of walks.
 
 ghost use Rattle.std.specs.Prelude.{◌≡◌};
-ghost use Rattle.name_ends.specs.Asked.{told_of};
+ghost use Rattle.name_ends.specs.Asked.{kinds_of};
 ghost use Rattle.name_ends.specs.Ends.{is_alias, is_answered, is_dead, is_type_answered, is_type_dead, is_type_rewritten, only_dead};
 
 use crate::kinds::{EndKind, some_kind, some_rewritten};
@@ -29,9 +29,9 @@ pub struct NameEnds {
     pub six: Option<TypeEnds>,
 }
 
-/// What is told of walks by their ends.
-pub(crate) fn told_of(ends: &[WalkEnd]) -> TypeEnds
-    ensures { result ≡ told_of ends.now }
+/// The kinds that some of these ends have.
+pub(crate) fn kinds_of(ends: &[WalkEnd]) -> TypeEnds
+    ensures { result ≡ kinds_of ends.now }
 {
     TypeEnds {
         answer: some_kind(EndKind::Answer, ends),

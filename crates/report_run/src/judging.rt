@@ -70,7 +70,7 @@ fn judged<N: Naming + Send + Sync, K: Kept + Drop, G: Gate + Sync, R: Threads + 
     }
 }
 
-/// What a judge tells of its configuration. Where a DNAME record of it may multiply the names of its class tree, they are
+/// The report of a judge's configuration. Where a DNAME record of it may multiply the names of its class tree, they are
 /// counted before one is judged.
 pub fn counted<N: Naming + Send + Sync, K: Kept + Drop, G: Gate + Sync, R: Threads + Wait + Sync>(
     rt: &R,
@@ -92,14 +92,19 @@ pub fn counted<N: Naming + Send + Sync, K: Kept + Drop, G: Gate + Sync, R: Threa
         judge.base_names(),
         limits.classes,
     ) {
-        Ok(()) => told(rt, alloc, judge, limits, gate),
+        Ok(()) => report_by_judge(rt, alloc, judge, limits, gate),
         Err(ending) => Err(ending),
     }
 }
 
-/// What a judge tells of its subject, once it has judged the names of the class tree at or below the subject's name. It is
+/// The report of a judge's subject, once it has judged the names of the class tree at or below the subject's name. It is
 /// the same for every number of workers and every schedule.
-pub fn told<N: Naming + Send + Sync, K: Kept + Drop, G: Gate + Sync, R: Threads + Wait + Sync>(
+pub fn report_by_judge<
+    N: Naming + Send + Sync,
+    K: Kept + Drop,
+    G: Gate + Sync,
+    R: Threads + Wait + Sync,
+>(
     rt: &R,
     alloc: Global,
     judge: &Judge<'_, N>,
@@ -114,7 +119,7 @@ pub fn told<N: Naming + Send + Sync, K: Kept + Drop, G: Gate + Sync, R: Threads 
     laws::part_is_reached();
     match run_tree(rt, alloc, judge, limits.workers, limits.classes, gate) {
         Ok(filed) => match judge.kept_report(filed) {
-            Ok(told) => Ok(told),
+            Ok(report) => Ok(report),
             Err(JudgeFault::StatesPassed(query)) => Err(too_many_states(alloc, &query)),
             Err(JudgeFault::NoMemory) => Err(Ending::no_memory()),
         },

@@ -1,9 +1,9 @@
 //! The report of a configuration, or on the queries at or below a name, judged by workers within the budgets of a run; or
 //! how a run ends that passes one of them.
 //!
-//! The layers above may rest on this: `report_of` gives what is kept of the report of a whole configuration, and `told` of
-//! that of a judge's subject, the same for every number of workers and every schedule; each error is the ending of a run
-//! that has too many names, or else a query with too many states, or of one for which memory ran out.
+//! The layers above may rest on this: `report_of` gives what is kept of the report of a whole configuration, and
+//! `report_by_judge` of that of a judge's subject, the same for every number of workers and every schedule; each error is
+//! the ending of a run that has too many names, or else a query with too many states, or of one for which memory ran out.
 //!
 //! Costs: those of the judge, of its work and of the pool. Where a DNAME record may multiply the names of the class tree,
 //! they are counted before one is judged, and no counted name is kept.
@@ -14,5 +14,5 @@ mod judging;
 mod states;
 
 pub use counting::{count_redirected, either_redirects};
-pub use judging::{CheckLimits, counted, report_of, told};
+pub use judging::{CheckLimits, counted, report_by_judge, report_of};
 pub use states::too_many_states;

@@ -33,11 +33,11 @@ use Rattle.walk_laws.specs.Outcome.{HasOutcome, outcome_of}
 use Rattle.same_answers.specs.Alike.{AnswersAlike, AreBounded, HasOutcomeIn, IsBoundedIn}
 use Rattle.same_answers.specs.Compared.{Compared}
 use Rattle.same_answers.specs.Ends.{are_alike, are_within, leaves_of, graphs_alike, graphs_end, is_bounded}
-use Rattle.same_answers.specs.Looked.{IsLooked, looked_end}
+use Rattle.same_answers.specs.GraphFound.{IsGraphFound, end_by_graphs}
 use Rattle.same_answers.specs.Straight.{straight_end}
 use Rattle.same_answers.specs.Verdict.{CanBeCompared, IsPairEnd, PassesInOne, SomeServerPassesInOne}
-use Rattle.same_answers.specs.declared.looked.Looked.{Looked}
-use Rattle.same_answers.specs.declared.looked.Looked.TheVariants.{Passed, Unlearnt, Walks}
+use Rattle.same_answers.specs.declared.graph_found.GraphFound.{GraphFound}
+use Rattle.same_answers.specs.declared.graph_found.GraphFound.TheVariants.{Passed, Unlearnt, Walks}
 use Rattle.same_answers.specs.declared.verdict.PairEnd.{PairEnd}
 use Rattle.same_answers.specs.declared.verdict.PairEnd.TheVariants.{Equal, Apart, Unbounded, StatesPassed}
 use Rattle.same_answers.proofs.GraphEnds.{bounded_by_ends, outcome_there, place_of_overlong, within_by_ends}
@@ -220,15 +220,15 @@ module _ (two : Compared) (query : Labels) where
     by false other e f = (looked, λ bounded. true≢false (sym (bounds_first.1 bounded.0) ∙ e))
 
   -- what was looked at in both configurations gives the end of the query
-  pub end_by_looked : (first second : Looked) → IsLooked (limited_to two.first two.rewrites two.states) query first
-      → IsLooked (limited_to two.second two.rewrites two.states) query second → IsPairEnd two query (looked_end first second)
-  end_by_looked Passed second one other = inl one
-  end_by_looked Unlearnt Passed one other = inr other
-  end_by_looked Unlearnt Unlearnt one other = (none_passes one.0 other.0, λ none. absurd (none (inl one.1)))
-  end_by_looked Unlearnt (Walks graph) one other = (none_passes one.0 other.0, λ none. absurd (none (inl one.1)))
-  end_by_looked (Walks graph) Passed one other = inr other
-  end_by_looked (Walks graph) Unlearnt one other = (none_passes one.0 other.0, λ none. absurd (none (inr other.1)))
-  end_by_looked (Walks first) (Walks second) one other =
+  pub end_by_found : (first second : GraphFound) → IsGraphFound (limited_to two.first two.rewrites two.states) query first
+      → IsGraphFound (limited_to two.second two.rewrites two.states) query second → IsPairEnd two query (end_by_graphs first second)
+  end_by_found Passed second one other = inl one
+  end_by_found Unlearnt Passed one other = inr other
+  end_by_found Unlearnt Unlearnt one other = (none_passes one.0 other.0, λ none. absurd (none (inl one.1)))
+  end_by_found Unlearnt (Walks graph) one other = (none_passes one.0 other.0, λ none. absurd (none (inl one.1)))
+  end_by_found (Walks graph) Passed one other = inr other
+  end_by_found (Walks graph) Unlearnt one other = (none_passes one.0 other.0, λ none. absurd (none (inr other.1)))
+  end_by_found (Walks first) (Walks second) one other =
       by_graphs first second (record { few = none_passes one.0 other.0; learnt = no_server_passes one.1 other.1 }) one.2 other.2
 
   -- ---- the verdict where walks go straight in both
@@ -289,8 +289,8 @@ module _ (two : Compared) (query : Labels) where
     test : RrType → Bool
     test rtype = are_alike (of_first rtype).0 (of_second rtype).0
 
-  looked_end_exists : CanBeCompared two query → (end : PairEnd) × IsPairEnd two query end
-  looked_end_exists looked = by (both (bounded_decided two.first two.rewrites query) (bounded_decided two.second two.rewrites query)) where
+  end_exists_compared : CanBeCompared two query → (end : PairEnd) × IsPairEnd two query end
+  end_exists_compared looked = by (both (bounded_decided two.first two.rewrites query) (bounded_decided two.second two.rewrites query)) where
     by : Decided (AreBounded two query) → (end : PairEnd) × IsPairEnd two query end
     by (inl bounded) = bounded_end looked bounded
     by (inr not_both) = (Unbounded, (looked, not_both))
@@ -299,7 +299,7 @@ module _ (two : Compared) (query : Labels) where
   few_end_exists few = by (either (server_decided two.first two.rewrites two.states) (server_decided two.second two.rewrites two.states)) where
     by : Decided (SomeServerPassesInOne two) → (end : PairEnd) × IsPairEnd two query end
     by (inl some) = (Equal, (few, λ none. absurd (none some)))
-    by (inr none) = looked_end_exists (record { few = few; learnt = none })
+    by (inr none) = end_exists_compared (record { few = few; learnt = none })
 
   -- each query has an end
   pub end_exists : (end : PairEnd) × IsPairEnd two query end

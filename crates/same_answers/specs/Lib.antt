@@ -5,7 +5,7 @@ pub use Rattle.verdict_book.specs.Lists
 pub mod Alike
 pub mod Compared
 pub mod Ends
-pub mod Looked
+pub mod GraphFound
 pub mod Outcomes
 pub mod Passed
 pub mod Rows

@@ -14,8 +14,8 @@
 #![tactic(auto)]
 
 mod ends;
+mod graph_found;
 pub mod laws;
-mod looked;
 mod naming;
 mod outcomes;
 mod pairing;

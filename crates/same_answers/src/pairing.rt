@@ -15,7 +15,7 @@ ghost use Rattle.same_answers.specs.Values.{ArePairValues};
 ghost use Rattle.same_answers.specs.Verdict.{IsBelowEnd, IsPairEnd, IsPairVerdict, SomeServerPassesInOne};
 ghost use Rattle.same_answers.specs.Passed.{SomeClassPassesInOne};
 
-use crate::looked::{looked_at, looked_end};
+use crate::graph_found::{end_by_graphs, found_in};
 use crate::naming::{JointGround, PairNaming};
 use crate::straight::straight_end;
 use crate::verdict::PairEnd;
@@ -160,7 +160,7 @@ impl<'a, N: PairNaming> Pairing<'a, N> {
     {
         match self.straight_class(near, query)? {
             Some(end) => Ok(end),
-            None => self.looked_class(query),
+            None => self.class_by_graphs(query),
         }
     }
 
@@ -178,12 +178,12 @@ impl<'a, N: PairNaming> Pairing<'a, N> {
     }
 
     /// The verdict of the class that the query represents, by the graphs of its walks.
-    fn looked_class(&self, query: &Name) -> Result<PairEnd, NoMemory>
+    fn class_by_graphs(&self, query: &Name) -> Result<PairEnd, NoMemory>
         ensures { IfOk result (IsPairEnd N.compared query.now) }
     {
-        let first = looked_at(&self.first, query)?;
-        let second = looked_at(&self.second, query)?;
-        looked_end(self.alloc, &first, &second)
+        let first = found_in(&self.first, query)?;
+        let second = found_in(&self.second, query)?;
+        end_by_graphs(self.alloc, &first, &second)
     }
 
     /// The representative of the class below a name of the class tree, or `None` where it is empty.

@@ -107,15 +107,15 @@ module _ (rtype : RrType) where
   retyped_twice other (x ∷ ends) = ap (λ (rest : List TypedEnd). retyped rtype x ∷ rest) (retyped_twice other ends)
 
 -- where the types go alike, the ends with the one are those with the other, each once
-once_told : (graph : PlainGraph) (a b : RrType) → GoAlike graph a b → once_with graph b ≡ map (retyped b) (once_of [] (ends_with graph a))
-once_told graph a b alike = ap (put []) (with_alike a b graph alike) ∙ put_retyped b [] (ends_with graph a)
+once_retyped : (graph : PlainGraph) (a b : RrType) → GoAlike graph a b → once_with graph b ≡ map (retyped b) (once_of [] (ends_with graph a))
+once_retyped graph a b alike = ap (put []) (with_alike a b graph alike) ∙ put_retyped b [] (ends_with graph a)
 
 -- the ends with the one type are with the other type those of it, each once
 pub once_alike : (graph : PlainGraph) (a b : RrType) → GoAlike graph a b → map (retyped b) (once_with graph a) ≡ once_with graph b
 once_alike graph a b alike =
-    ap (map (retyped b)) (once_told graph a a (λ at node is. refl))
+    ap (map (retyped b)) (once_retyped graph a a (λ at node is. refl))
     ∙ retyped_twice b a (once_of [] (ends_with graph a))
-    ∙ sym (once_told graph a b alike)
+    ∙ sym (once_retyped graph a b alike)
 
 -- ---- type by type
 
@@ -151,7 +151,7 @@ module _ (graph : PlainGraph) where
   once_typed : (rtype : RrType) (x : TypedEnd) → Contains (once_with graph rtype) x → x.rtype ≡ rtype
   once_typed rtype x has =
       let from = from_map (retyped rtype) (once_of [] (ends_with graph rtype)) x
-      (subst (λ (ends : List TypedEnd). Contains ends x) (once_told graph rtype rtype (λ at node is. refl)) has) in
+      (subst (λ (ends : List TypedEnd). Contains ends x) (once_retyped graph rtype rtype (λ at node is. refl)) has) in
       ap (λ (end : TypedEnd). end.rtype) (sym from.2)
 
   -- no end with another type is among those with this one
@@ -219,8 +219,8 @@ given_next {X = X} give xs i was now so x d below is next =
     ∙ ap (flat_map give) (ap (λ (y : X). take i xs ++ y ∷ []) is ∙ sym (take_more xs i d below))
 
 -- what is known of a type that has it tells its ends
-pub told_again : (graph : PlainGraph) (rtype : RrType) (known items : List AlikeEnds) (alike : AlikeEnds) → AllByRecursion (AreAlikeEnds graph) known → items ≡ known
+pub known_again : (graph : PlainGraph) (rtype : RrType) (known items : List AlikeEnds) (alike : AlikeEnds) → AllByRecursion (AreAlikeEnds graph) known → items ≡ known
     → Some alike ≡ find (λ (one : AlikeEnds). has_bit one.types rtype) items → map (retyped rtype) alike.ends ≡ once_with graph rtype
-told_again graph rtype known items alike all same is =
+known_again graph rtype known items alike all same is =
     let there = found_there (λ (one : AlikeEnds). has_bit one.types rtype) items alike (sym is) in
     each_along (AreAlikeEnds graph) items (subst (AllByRecursion (AreAlikeEnds graph)) (sym same) all) alike there.0 rtype there.1

@@ -3,8 +3,8 @@ use Rattle.std.proofs.Common.{◌≡◌, ℕ, ◌+◌, ◌<◌, List, [], ◌∷
 use Rattle.std.proofs.lemmas.List.{take_more}
 use Rattle.std.proofs.lemmas.List.Sums.{fold-append}
 use Rattle.std.specs.List.{AllZip, fold}
-use Rattle.site_checks.specs.Shown.{HasSeen, Tells}
-use Rattle.site_checks.specs.Views.{told_by}
+use Rattle.site_checks.specs.Shown.{HasSeen, AreSiteFindings}
+use Rattle.site_checks.specs.Views.{site_findings}
 use Rattle.site_checks.specs.declared.shown.SiteFindings.{SiteFindings}
 use Rattle.site_checks.specs.declared.views.View.{View}
 
@@ -41,39 +41,39 @@ module _ {B : Type 0} (name : B → List ℕ) (held : B → List (List ℕ)) (st
   more_seen views more (a ∷ olds) (b ∷ bs) (c ∷ cs) first next = (one_seen views more a b c first.0 next.0, more_seen views more olds bs cs first.1 next.1)
 
   -- what checks tell is told once
-  pub tell_all : (all : List B) (told : List SiteFindings) → AllZip (Tells name held) all told → told ≡ map (λ b. record { title = name b; findings = held b }) all
-  tell_all [] [] tells = refl
-  tell_all [] (t ∷ told) tells = absurd tells
-  tell_all (b ∷ all) [] tells = absurd tells
-  tell_all (b ∷ all) (t ∷ told) tells =
-      by (as_told t (name b) (held b) tells.0.title_is tells.0.findings_are) (tell_all all told tells.1)
+  pub all_findings_are : (all : List B) (told : List SiteFindings) → AllZip (AreSiteFindings name held) all told → told ≡ map (λ b. record { title = name b; findings = held b }) all
+  all_findings_are [] [] tells = refl
+  all_findings_are [] (t ∷ told) tells = absurd tells
+  all_findings_are (b ∷ all) [] tells = absurd tells
+  all_findings_are (b ∷ all) (t ∷ told) tells =
+      by (as_found t (name b) (held b) tells.0.title_is tells.0.findings_are) (all_findings_are all told tells.1)
     where
-      as_told : (t : SiteFindings) (title : List ℕ) (findings : List (List ℕ)) → t.title ≡ title → t.findings ≡ findings → t ≡ record { title = title; findings = findings }
-      as_told t title findings one other = λ i. record { title = one i; findings = other i }
+      as_found : (t : SiteFindings) (title : List ℕ) (findings : List (List ℕ)) → t.title ≡ title → t.findings ≡ findings → t ≡ record { title = title; findings = findings }
+      as_found t title findings one other = λ i. record { title = one i; findings = other i }
 
       by : {x y : SiteFindings} {xs ys : List SiteFindings} → x ≡ y → xs ≡ ys → x ∷ xs ≡ y ∷ ys
       by one rest = λ i. one i ∷ rest i
 
   -- checks that were shown views tell what they mean that were handed in
-  pub told_after : (views : List View) (olds bs : List B) → AllZip (HasSeen name held step views) olds bs
-      → map (λ b. record { title = name b; findings = held b }) bs ≡ map (told_by views) (map (λ b. record { name = name b; held = held b; step = step b }) olds)
-  told_after views [] [] seen = refl
-  told_after views [] (b ∷ bs) seen = absurd seen
-  told_after views (a ∷ olds) [] seen = absurd seen
-  told_after views (a ∷ olds) (b ∷ bs) seen =
-      let rest = told_after views olds bs seen.1 in
+  pub findings_after : (views : List View) (olds bs : List B) → AllZip (HasSeen name held step views) olds bs
+      → map (λ b. record { title = name b; findings = held b }) bs ≡ map (site_findings views) (map (λ b. record { name = name b; held = held b; step = step b }) olds)
+  findings_after views [] [] seen = refl
+  findings_after views [] (b ∷ bs) seen = absurd seen
+  findings_after views (a ∷ olds) [] seen = absurd seen
+  findings_after views (a ∷ olds) (b ∷ bs) seen =
+      let rest = findings_after views olds bs seen.1 in
       λ i. record { title = seen.0.name_is i; findings = seen.0.held_is i } ∷ rest i
 
 -- one more is told
-one_told : {A B : Type 0} (R : A → B → Type 0) (xs : List A) (ys : List B) (x : A) (y : B) → AllZip R xs ys → R x y → AllZip R (xs ++ x ∷ []) (ys ++ y ∷ [])
-one_told R [] [] x y all one = (one, tt)
-one_told R [] (b ∷ ys) x y all one = absurd all
-one_told R (a ∷ xs) [] x y all one = absurd all
-one_told R (a ∷ xs) (b ∷ ys) x y all one = (all.0, one_told R xs ys x y all.1 one)
+zip_one : {A B : Type 0} (R : A → B → Type 0) (xs : List A) (ys : List B) (x : A) (y : B) → AllZip R xs ys → R x y → AllZip R (xs ++ x ∷ []) (ys ++ y ∷ [])
+zip_one R [] [] x y all one = (one, tt)
+zip_one R [] (b ∷ ys) x y all one = absurd all
+zip_one R (a ∷ xs) [] x y all one = absurd all
+zip_one R (a ∷ xs) (b ∷ ys) x y all one = (all.0, zip_one R xs ys x y all.1 one)
 
 -- the first items of a list stay beside what is told of them with one more of each
-pub told_more : {A B : Type 0} (R : A → B → Type 0) (xs : List A) (ys now : List B) (i : ℕ) (x : A) (y : B) → i < length xs → x ≡ get_or xs i x → now ≡ ys ++ y ∷ [] → R x y
+pub zip_more : {A B : Type 0} (R : A → B → Type 0) (xs : List A) (ys now : List B) (i : ℕ) (x : A) (y : B) → i < length xs → x ≡ get_or xs i x → now ≡ ys ++ y ∷ [] → R x y
     → AllZip R (take i xs) ys → AllZip R (take (i + 1) xs) now
-told_more R xs ys now i x y there is pushed one all =
+zip_more R xs ys now i x y there is pushed one all =
     subst (λ zs. AllZip R zs now) (ap (λ z. take i xs ++ z ∷ []) is ∙ sym (take_more xs i x there))
-    (subst (λ zs. AllZip R (take i xs ++ x ∷ []) zs) (sym pushed) (one_told R (take i xs) ys x y all one))
+    (subst (λ zs. AllZip R (take i xs ++ x ∷ []) zs) (sym pushed) (zip_one R (take i xs) ys x y all one))

@@ -12,6 +12,6 @@ pub record HasSeen {B : Type 0} (name : B → List ℕ) (held : B → List (List
   pub held_is : held after ≡ fold (step before) (held before) views
 
 -- what is told of a check: its name and its findings
-pub record Tells {B : Type 0} (name : B → List ℕ) (held : B → List (List ℕ)) (check : B) (told : SiteFindings) : Type 0 where
-  pub title_is : told.title ≡ name check
-  pub findings_are : told.findings ≡ held check
+pub record AreSiteFindings {B : Type 0} (name : B → List ℕ) (held : B → List (List ℕ)) (check : B) (found : SiteFindings) : Type 0 where
+  pub title_is : found.title ≡ name check
+  pub findings_are : found.findings ≡ held check

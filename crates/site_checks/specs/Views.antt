@@ -35,5 +35,5 @@ abbrev pub findings_of : Site → List View → List (List ℕ)
 findings_of site views = fold site.step site.held views
 
 -- what a check tells that was shown these views, in order: its name, and its findings
-abbrev pub told_by : List View → Site → SiteFindings
-told_by views site = record { title = site.name; findings = findings_of site views }
+abbrev pub site_findings : List View → Site → SiteFindings
+site_findings views site = record { title = site.name; findings = findings_of site views }

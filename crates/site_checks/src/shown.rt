@@ -2,7 +2,7 @@
 
 ghost use Rattle.std.specs.Prelude.{◌≡◌, IfOk};
 ghost use Rattle.std.specs.List.{AllZip};
-ghost use Rattle.site_checks.specs.Shown.{Tells};
+ghost use Rattle.site_checks.specs.Shown.{AreSiteFindings};
 
 use crate::check::SiteCheck;
 use crate::line::Line;
@@ -17,19 +17,22 @@ pub struct SiteFindings {
 }
 
 /// What all checks tell, in order. Each is asked once for its name and once for its findings.
-pub fn tell(alloc: Global, sites: &[Box<dyn SiteCheck>]) -> Result<List<SiteFindings>, NoMemory>
-    ensures { IfOk result (λ told. AllZip (Tells (λ b. name b) (λ b. held b)) sites.now told) }
+pub fn all_findings(
+    alloc: Global,
+    sites: &[Box<dyn SiteCheck>],
+) -> Result<List<SiteFindings>, NoMemory>
+    ensures { IfOk result (λ found. AllZip (AreSiteFindings (λ b. name b) (λ b. held b)) sites.now found) }
 {
-    let mut told = List::new(alloc);
+    let mut found = List::new(alloc);
     for site in sites {
-        told.push(tell_one(alloc, site)?)?;
+        found.push(findings_of_check(alloc, site)?)?;
     }
-    Ok(told)
+    Ok(found)
 }
 
 /// What a check tells.
-fn tell_one(alloc: Global, site: &Box<dyn SiteCheck>) -> Result<SiteFindings, NoMemory>
-    ensures { IfOk result (λ told. (told.title ≡ name site.now) × (told.findings ≡ held site.now)) }
+fn findings_of_check(alloc: Global, site: &Box<dyn SiteCheck>) -> Result<SiteFindings, NoMemory>
+    ensures { IfOk result (λ found. (found.title ≡ name site.now) × (found.findings ≡ held site.now)) }
 {
     Ok(SiteFindings {
         title: site.title(alloc)?,

@@ -13,9 +13,9 @@ IsRightCause first children limit (Some NoMemory) = Unit {0}
 IsRightCause first children limit None = Unit {0}
 
 -- a whole end says how many items are reached, and a stop for want of room that they are more than the limit
-abbrev pub EndSays : {I : Type 0} → I → (I → List I) → ℕ → Ended → Type 0
-EndSays first children limit (Whole count) = ReachesExactly first children count
-EndSays first children limit (Stopped cause) = IsRightCause first children limit (Some cause)
+abbrev pub IsRightEnd : {I : Type 0} → I → (I → List I) → ℕ → Ended → Type 0
+IsRightEnd first children limit (Whole count) = ReachesExactly first children count
+IsRightEnd first children limit (Stopped cause) = IsRightCause first children limit (Some cause)
 
 -- the cause for which a worker ended, if it ended by a stop
 abbrev pub stop_of : Option Ended → Option StopCause
@@ -29,11 +29,11 @@ ClaimsMet given filed foreign None = given ≡ filed + foreign
 ClaimsMet given filed foreign (Some cause) = filed + foreign ≤ given
 
 -- a worker has ended, and what its end says; a worker with a whole end met each of its claims
-abbrev pub EndsRight : {I : Type 0} → I → (I → List I) → ℕ → ℕ → ℕ → ℕ → Option Ended → Type 0
-EndsRight first children limit given filed foreign None = ⊥
-EndsRight first children limit given filed foreign (Some (Whole count)) =
+abbrev pub HasRightEnd : {I : Type 0} → I → (I → List I) → ℕ → ℕ → ℕ → ℕ → Option Ended → Type 0
+HasRightEnd first children limit given filed foreign None = ⊥
+HasRightEnd first children limit given filed foreign (Some (Whole count)) =
     ReachesExactly first children count × (given ≡ filed + foreign)
-EndsRight first children limit given filed foreign (Some (Stopped cause)) =
+HasRightEnd first children limit given filed foreign (Some (Stopped cause)) =
     IsRightCause first children limit (Some cause)
 
 -- of two causes that of want of room goes first

@@ -4,8 +4,8 @@ use Rattle.crossbeam_deque.specs.Handles.{worker_view, worker_deque, view, steal
 use Rattle.steal_pool.specs.declared.rule.SeatView.{SeatView}
 use Rattle.steal_pool.specs.declared.row.OwnRow.{OwnRow}
 use Rattle.steal_pool.specs.declared.row.OtherRow.{OtherRow}
-use Rattle.steal_pool.specs.declared.row.other.StealOutcome.{StealOutcome}
-use Rattle.steal_pool.specs.declared.row.other.StealOutcome.TheVariants.{Ticket, Nothing, Again}
+use Rattle.steal_pool.specs.declared.row.other.Stolen.{Stolen}
+use Rattle.steal_pool.specs.declared.row.other.Stolen.TheVariants.{Ticket, Nothing, Again}
 use Rattle.steal_pool.specs.Rule.{seat_view, WasEmpty}
 
 -- what the owner's seat has pushed and taken
@@ -33,7 +33,7 @@ abbrev pub TookTicket : SeatView → SeatView → ℕ → Type 0
 TookTicket old new ticket = new.taken ≡ old.taken ++ ticket ∷ []
 
 -- the seat took the first ticket, or at one moment the deque held nothing, or nothing was done
-abbrev pub TakesOne : SeatView → SeatView → StealOutcome → Type 0
+abbrev pub TakesOne : SeatView → SeatView → Stolen → Type 0
 TakesOne old new (Ticket ticket) = new ≡ seat_view old.pushed (old.taken ++ ticket ∷ [])
 TakesOne old new Nothing = (new ≡ old) × WasEmpty old
 TakesOne old new Again = new ≡ old

@@ -1,7 +1,7 @@
 //! A worker, and what it promises at its return.
 
 ghost use Rattle.std.specs.Prelude.{◌≡◌, ◌+◌, ◌<◌, ◌≤◌, None, Some, IfSome};
-ghost use Rattle.steal_pool.specs.Ends.{IsRightCause, EndSays, EndsRight};
+ghost use Rattle.steal_pool.specs.Ends.{IsRightCause, IsRightEnd, HasRightEnd};
 ghost use Rattle.steal_pool.specs.Slots.{taken_in};
 ghost use Rattle.steal_pool.specs.declared.slot.Ended.TheVariants.{Whole};
 
@@ -43,7 +43,7 @@ pub fn worker<W: Work, A: Capped, B: Ledger, C: Ledger, G: Gate, R: Wait>(
 
     // It ended. `Whole` gives the number of the reached items, and each of its claims was filed or foreign.
     // `Full` comes only where more items than the limit are reached.
-    ensures ended { EndsRight W.first_item W.children_of A.limit slot.new.given.amount slot.new.filed.amount slot.new.foreign slot.new.ended }
+    ensures ended { HasRightEnd W.first_item W.children_of A.limit slot.new.given.amount slot.new.filed.amount slot.new.foreign slot.new.ended }
 {
     let mut kept = Vec::new(alloc);
     let mut stopped: Option<StopCause> = None;
@@ -76,7 +76,7 @@ fn end_of<W: Work, A: Capped, B: Ledger, C: Ledger, R: Wait>(
     stopped: Option<StopCause>,
 ) -> Option<Ended>
     requires full { IsRightCause W.first_item W.children_of A.limit stopped }
-    ensures says { IfSome result (EndSays W.first_item W.children_of A.limit) }
+    ensures says { IfSome result (IsRightEnd W.first_item W.children_of A.limit) }
     ensures whole { (count : _) → result ≡ Some (Whole count) → stopped ≡ None }
 {
     match stopped {

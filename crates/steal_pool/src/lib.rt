@@ -20,7 +20,7 @@ mod turn;
 
 pub use count::PoolCount;
 pub use locked::{Capped, LockedBook};
-pub use row::{OtherRow, OwnRow, StealOutcome};
+pub use row::{OtherRow, OwnRow, Stolen};
 pub use rule::SeatView;
 pub use run::{run_tree, run_tree_counted};
 pub use slot::{Ended, Slot};

@@ -6,7 +6,7 @@ ghost use Rattle.verdict_book.specs.Books.{claims_in, filings_in};
 ghost use Rattle.verdict_book.specs.Items.{Reached, ReachesMore};
 ghost use Rattle.verdict_book.specs.Refusals.{is_full};
 ghost use Rattle.verdict_book.specs.declared.claim.ClaimFault.TheVariants.{Stopped};
-ghost use Rattle.steal_pool.specs.Ends.{EndSays};
+ghost use Rattle.steal_pool.specs.Ends.{IsRightEnd};
 
 use crate::slot::Ended;
 use dns_data::List;
@@ -118,7 +118,7 @@ impl<W: Work, A: Capped, B: Ledger, C: Ledger> LockedBook<W, A, B, C> {
     /// How a worker ends that has no ticket: `None` where the book has something unfiled and was not
     /// stopped.
     pub(crate) fn end(&self) -> Option<Ended>
-        ensures { IfSome result (EndSays W.first_item W.children_of A.limit) }
+        ensures { IfSome result (IsRightEnd W.first_item W.children_of A.limit) }
     {
         if let Some(cause) = self.book.stopped() {
             return Some(Ended::Stopped(cause));

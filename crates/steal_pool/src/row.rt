@@ -10,7 +10,7 @@ use std::alloc::Global;
 mod other;
 mod own;
 
-pub use other::StealOutcome;
+pub use other::Stolen;
 
 /// A worker's own deque of tickets, in which the first one in is the first one out, with the owner's
 /// seat. A push costs no more than a ticket's place.

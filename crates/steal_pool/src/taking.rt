@@ -4,7 +4,7 @@ ghost use Rattle.std.specs.Prelude.{◌≡◌, ◌+◌, ◌<◌, ◌++◌, vec_l
 ghost use Rattle.steal_pool.specs.Rows.{other_view, TookTicket};
 ghost use Rattle.steal_pool.specs.Slots.{taken_at, taken_in, one_if, TookAtOne, TookNext};
 
-use crate::row::{OtherRow, OwnRow, StealOutcome};
+use crate::row::{OtherRow, OwnRow, Stolen};
 
 /// The next ticket. One whose push was refused comes before those in deques. After a stop no deque gives
 /// one.
@@ -61,7 +61,7 @@ fn steal_ticket(other: &mut OtherRow) -> Option<u32>
     ensures taken { IfSome result (TookTicket (other_view other.old) (other_view other.new)) }
 {
     match other.steal() {
-        StealOutcome::Ticket(ticket) => Some(ticket),
-        StealOutcome::Nothing | StealOutcome::Again => None,
+        Stolen::Ticket(ticket) => Some(ticket),
+        Stolen::Nothing | Stolen::Again => None,
     }
 }

@@ -9,7 +9,7 @@ use std::alloc::Global;
 use std::sync::Wait;
 use std::test::Fail;
 use std::thread::Threads;
-use steal_pool::{OwnRow, PoolCount, PoolFault, StealOutcome, run_tree_counted};
+use steal_pool::{OwnRow, PoolCount, PoolFault, Stolen, run_tree_counted};
 use verdict_book::walk_tree;
 
 // The pool walks so only where some filing was foreign, which no run meets.
@@ -145,7 +145,7 @@ fn are_pushed(own: &mut OwnRow) -> bool {
 /// Whether a thief takes the first ticket, and the owner the second.
 fn first_two_are_taken(own: &mut OwnRow) -> Result<bool, NoMemory> {
     let mut thief = own.other()?;
-    Ok(thief.steal() == StealOutcome::Ticket(0) && own.pop() == Some(1))
+    Ok(thief.steal() == Stolen::Ticket(0) && own.pop() == Some(1))
 }
 
 /// Whether a seat that is split off takes the third ticket; it is joined again.
@@ -153,5 +153,5 @@ fn third_is_taken(own: &mut OwnRow) -> Result<bool, NoMemory> {
     let mut split = own.split()?;
     let taken = split.steal();
     own.join(split);
-    Ok(taken == StealOutcome::Ticket(2))
+    Ok(taken == Stolen::Ticket(2))
 }

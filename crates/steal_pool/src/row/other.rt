@@ -8,7 +8,7 @@ use crossbeam_deque::Steal;
 
 /// What a steal gives.
 #[derive(Clone, Copy, Debug, PartialEq, Eq)]
-pub enum StealOutcome {
+pub enum Stolen {
     /// The first ticket.
     Ticket(u32),
     /// At one moment the deque held nothing.
@@ -19,14 +19,14 @@ pub enum StealOutcome {
 
 impl OtherRow {
     /// Steals the first ticket.
-    pub fn steal(&mut self) -> StealOutcome
+    pub fn steal(&mut self) -> Stolen
         ensures same { IsSameSeat self.old self.new }
         ensures taken { TakesOne (other_view self.old) (other_view self.new) result }
     {
         match self.deque.steal_as::<Takes>(&mut self.seat) {
-            Steal::Success(ticket) => StealOutcome::Ticket(ticket),
-            Steal::Empty => StealOutcome::Nothing,
-            Steal::Retry => StealOutcome::Again,
+            Steal::Success(ticket) => Stolen::Ticket(ticket),
+            Steal::Empty => Stolen::Nothing,
+            Steal::Retry => Stolen::Again,
         }
     }
 }

@@ -3,4 +3,4 @@ use Rattle.groot_run.proofs.ClassLaws.{has_classes}
 use Rattle.groot_run.proofs.laws.query_classes.Goals as goal
 
 pub returns : goal.returns
-returns c config rewrites = has_classes config rewrites (c.classes_are_told.ensures.one config) (c.classes_are_told.ensures.prefixes config)
+returns c config rewrites = has_classes config rewrites (c.names_have_classes.ensures.one config) (c.names_have_classes.ensures.prefixes config)

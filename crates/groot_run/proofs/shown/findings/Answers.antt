@@ -6,4 +6,4 @@ pub returns : goal.returns
 returns g c =
     findings_of_all _ _ (λ b. (goal.SiteCheck-dyn g (b.vtable, b.value)).step b.value) (g.W.Watchers.sites c.args.sites.now.own) c.args.sites.now.brought.items c.as_slice.result.now
     c.as_slice.ensures.value _ _ c.from_vec.result
-    (c.from_vec.ensures ∙ c.in_ok-append.ensures.items ∙ (λ i. c.into_vec-found.ensures i ++ c.into_vec.ensures i)) c.in_ok-findings.ensures c.in_ok-tell.ensures
+    (c.from_vec.ensures ∙ c.in_ok-append.ensures.items ∙ (λ i. c.into_vec-found.ensures i ++ c.into_vec.ensures i)) c.in_ok-findings.ensures c.in_ok-all_findings.ensures

@@ -6,7 +6,7 @@ use Rattle.verdict_book.specs.Lists.{IsPoolFault}
 use Rattle.verdict_book.specs.declared.walk.PoolFault.{PoolFault}
 use Rattle.report_run.specs.Budgets.{HasMoreNamesAt}
 use Rattle.report_run.proofs.Budgets.{list_is_short, names_pass, states_pass}
-use Rattle.report_run.proofs.judging.told.Goals as goal
+use Rattle.report_run.proofs.judging.report_by_judge.Goals as goal
 
 pub kept_report-requires-clause-few : goal.kept_report-requires-clause-few
 kept_report-requires-clause-few g c =

@@ -2,7 +2,7 @@ use Rattle.std.proofs.Common.{◌∙◌, not, sym, ap}
 use Rattle.dns_data.specs.RrType.{types}
 use Rattle.same_answers.specs.Ends.{graphs_alike}
 use Rattle.same_answers.proofs.FoundNext.{found_next, none_next}
-use Rattle.same_answers.proofs.looked.first_apart.Goals as goal
+use Rattle.same_answers.proofs.graph_found.first_apart.Goals as goal
 
 pub returns-then-not-branch : goal.returns-then-not-branch
 returns-then-not-branch c =

@@ -4,7 +4,7 @@ ghost use Rattle.std.specs.Prelude.{◌≡◌, not, IfOk};
 ghost use Rattle.std.specs.List.{find};
 ghost use Rattle.dns_data.specs.RrType.{types};
 ghost use Rattle.same_answers.specs.Ends.{graphs_alike, graphs_end};
-ghost use Rattle.same_answers.specs.Looked.{IsLooked, looked_end};
+ghost use Rattle.same_answers.specs.GraphFound.{IsGraphFound, end_by_graphs};
 
 use crate::ends::{is_bounded, leaves_of};
 use crate::outcomes::are_alike;
@@ -17,7 +17,7 @@ use std::alloc::Global;
 
 /// What is found of a query in one configuration.
 #[derive(Drop)]
-pub(crate) enum Looked {
+pub(crate) enum GraphFound {
     /// It reaches more pairs of state and type than are looked at.
     Passed,
     /// The name of some server does.
@@ -27,32 +27,32 @@ pub(crate) enum Looked {
 }
 
 /// What is found of a query in the configuration of these graphs.
-pub(crate) fn looked_at(graphs: &QueryGraphs<'_>, query: &Name) -> Result<Looked, NoMemory>
-    ensures { IfOk result (IsLooked graphs.now query.now) }
+pub(crate) fn found_in(graphs: &QueryGraphs<'_>, query: &Name) -> Result<GraphFound, NoMemory>
+    ensures { IfOk result (IsGraphFound graphs.now query.now) }
 {
     match graphs.graph(query) {
         Ok(Some(graph)) => match graphs.sets() {
-            Ok(_) => Ok(Looked::Walks(graph)),
-            Err(_) => Ok(Looked::Unlearnt),
+            Ok(_) => Ok(GraphFound::Walks(graph)),
+            Err(_) => Ok(GraphFound::Unlearnt),
         },
-        Ok(None) => Ok(Looked::Unlearnt),
-        Err(GraphFault::StatesPassed) => Ok(Looked::Passed),
+        Ok(None) => Ok(GraphFound::Unlearnt),
+        Err(GraphFault::StatesPassed) => Ok(GraphFound::Passed),
         Err(GraphFault::NoMemory) => Err(NoMemory),
     }
 }
 
 /// The verdict of a class by what is found of its representative in both configurations.
-pub(crate) fn looked_end(
+pub(crate) fn end_by_graphs(
     alloc: Global,
-    first: &Looked,
-    second: &Looked,
+    first: &GraphFound,
+    second: &GraphFound,
 ) -> Result<PairEnd, NoMemory>
-    ensures { IfOk result (λ end. end ≡ looked_end first.now second.now) }
+    ensures { IfOk result (λ end. end ≡ end_by_graphs first.now second.now) }
 {
     match (first, second) {
-        (Looked::Passed, _) | (_, Looked::Passed) => Ok(PairEnd::StatesPassed),
-        (Looked::Unlearnt, _) | (_, Looked::Unlearnt) => Ok(PairEnd::Equal),
-        (Looked::Walks(first), Looked::Walks(second)) => graphs_end(alloc, first, second),
+        (GraphFound::Passed, _) | (_, GraphFound::Passed) => Ok(PairEnd::StatesPassed),
+        (GraphFound::Unlearnt, _) | (_, GraphFound::Unlearnt) => Ok(PairEnd::Equal),
+        (GraphFound::Walks(first), GraphFound::Walks(second)) => graphs_end(alloc, first, second),
     }
 }
 

@@ -1,5 +1,5 @@
 use Rattle.query_verdicts.proofs.ClassesJudged.{some_server}
-use Rattle.same_answers.proofs.looked.looked_at.Goals as goal
+use Rattle.same_answers.proofs.graph_found.found_in.Goals as goal
 
 pub returns-in-Err : goal.returns-in-Err
 returns-in-Err c =
