@@ -1,7 +1,8 @@
 -- Which items a list has, also after a map, a filter or several lists in a row; and what holds of each pair of them.
-use Rattle.std.proofs.Common.{◌≡◌, ℕ, suc, ◌<◌, Bool, zero, true, false, cond, ◌⊎◌, List, [], ◌∷◌, ◌++◌, map, length, get_or, Contains, All, AllPairs, filter, flat_map, sym, refl, ap, ◌∙◌, subst, inl, inr, arith, true≢false}
+use Rattle.std.proofs.Common.{◌≡◌, ℕ, suc, ◌<◌, Bool, zero, true, false, cond, ◌⊎◌, List, [], ◌∷◌, ◌++◌, map, length, get_or, Contains, All, AllPairs, filter, flat_map, slice_get, Some, sym, refl, ap, ◌∙◌, subst, inl, inr, arith, true≢false}
 use Rattle.std.specs.List.{AllByRecursion}
 use Rattle.std.proofs.lemmas.List.{length-map, get_or-map}
+use Rattle.std.proofs.lemmas.Option.{get_or_from_slice_get, slice_get-get_or, slice_get_within}
 use Rattle.std.proofs.lemmas.List.Elements.{Contains-append_left, Contains-append_right, Contains-append_cases, Contains-get_or, All-contains, All-from_recursion}
 
 module _ {X : Type 0} where
@@ -23,6 +24,14 @@ module _ {X : Type 0} where
     by : (k : ℕ) → k < length (y ∷ xs) → get_or (y ∷ xs) k x ≡ x → (y ≡ x) ⊎ Contains xs x
     by zero below is = inl is
     by (suc k) below is = inr (k, omega arith, is)
+
+  -- an item at a place of a list is one of its items
+  pub item_there : (xs : List X) (k : ℕ) (x : X) → slice_get xs k ≡ Some x → Contains xs x
+  item_there xs k x is = (k, slice_get_within xs k x is, get_or_from_slice_get xs k x x is)
+
+  -- an item of a list stands at a place of it
+  pub place_of_item : (xs : List X) (x : X) → Contains xs x → (k : ℕ) × (slice_get xs k ≡ Some x)
+  place_of_item xs x (k, within, is) = (k, slice_get-get_or xs k x within ∙ ap Some is)
 
   -- what holds of each item that a list has holds along the list
   pub along : (P : X → Type 0) (xs : List X) → ((x : X) → Contains xs x → P x) → AllByRecursion P xs

@@ -1,11 +1,12 @@
 -- Items of lists by their places, and what a search finds.
-use Rattle.std.proofs.Common.{◌≡◌, ℕ, zero, suc, ◌+◌, ◌<◌, length, drop, get_or, drop-cons, length-append, ap, sym, ◌∙◌, arith, List, [], ◌∷◌, ◌++◌, refl, subst, Some, None, inl, inr}
+use Rattle.std.proofs.Common.{◌≡◌, ℕ, zero, suc, ◌+◌, ◌<◌, length, drop, get_or, drop-cons, length-append, ap, sym, ◌∙◌, arith, List, [], ◌∷◌, ◌++◌, refl, Some, None, inl, inr}
 use Rattle.std.specs.Prelude.{◌⊎◌, AllPairs, Contains, slice_get}
 use Rattle.std.proofs.lemmas.List.Elements.{Contains-append_cases}
 use Rattle.std.proofs.lemmas.List.Kept.{AllPairs-cons}
 use Rattle.std.specs.List.{AllZip, flat_map}
+pub use Rattle.dns_data.proofs.Membership.{item_there, place_of_item}
 pub use Rattle.dns_data.proofs.Searches.{found_there}
-use Rattle.dns_data.proofs.Membership.{none_in_nil, has_first, has_later, first_or_later, all_from_contains, from_flat_map, pairs_first, pairs_rest}
+use Rattle.dns_data.proofs.Membership.{has_first, has_later, all_from_contains, from_flat_map, pairs_first, pairs_rest}
 
 -- the two lists both have an item at the place, and the two are a pair
 pub record PairAt {A B : Type 0} (R : A → B → Type 0) (xs : List A) (ys : List B) (k : ℕ) : Type 0 where
@@ -37,22 +38,6 @@ count_next f xs i x below is =
     let next : suc i ≡ i + 1 = omega arith in
     ap (λ left. length (flat_map f left)) (drop-cons xs i x below ∙ (ap (λ one. one ∷ drop (suc i) xs) (sym is) ∙ ap (λ n. x ∷ drop n xs) next))
     ∙ length-append (f x) (flat_map f (drop (i + 1) xs))
-
--- an item at a place of a list is one of its items
-pub item_there : {A : Type 0} (xs : List A) (k : ℕ) (x : A) → slice_get xs k ≡ Some x → Contains xs x
-item_there [] k x e = cc
-item_there (y ∷ xs) zero x e =
-    let same : y ≡ x = cc in
-    subst (Contains (y ∷ xs)) same (has_first y xs)
-item_there (y ∷ xs) (suc k) x e = has_later y xs x (item_there xs k x e)
-
--- an item of a list stands at a place of it
-pub place_of_item : {A : Type 0} (xs : List A) (x : A) → Contains xs x → (k : ℕ) × (slice_get xs k ≡ Some x)
-place_of_item [] x has = absurd (none_in_nil x has)
-place_of_item (y ∷ xs) x has = by (first_or_later y xs x has) (place_of_item xs x) where
-  by : (y ≡ x) ⊎ Contains xs x → (Contains xs x → (k : ℕ) × (slice_get xs k ≡ Some x)) → (k : ℕ) × (slice_get (y ∷ xs) k ≡ Some x)
-  by (inl same) later = (0, ap Some same)
-  by (inr behind) later = let there = later behind in (suc there.0, there.1)
 
 -- each two items of two lists in a row are related, if those of each list are and those of the first to those of the
 -- second

@@ -11,8 +11,8 @@ pub(crate) struct Fork {
     pub steps: List<Step>,
 }
 
-/// What the first turn gives for a state: the arms of its node; or that its name is an alias. The forks of an alias are made
-/// in the second turn: where each leads to all top servers, they aren't held for each of as many states.
+/// What the first turn gives for a state: the arms of its node; or that its name is an alias. The forks of an alias are
+/// made in the second turn: where each leads to all top servers, they aren't held for each of as many states.
 #[derive(Debug, Drop)]
 pub(crate) enum Early {
     Done(List<Arm>),

@@ -9,8 +9,8 @@ ghost use Rattle.label_graph.specs.LiveSet.{HavePrefixes};
 ghost use Rattle.label_graph.specs.Pairs.{redirection};
 ghost use Rattle.label_graph.specs.Targets.{IsPrefixFrom};
 
+use crate::fronts::put_new_fronts;
 use crate::pair::Pair;
-use crate::parts::put_new_fronts;
 use dns_data::{Name, NoMemory, Rdata, Rr};
 use std::alloc::Global;
 

@@ -22,7 +22,8 @@ use Rattle.master_read.specs.declared.records.ReadLimits.{ReadLimits}
 use Rattle.master_read.specs.declared.records.Records.{Records}
 use Rattle.master_read.specs.declared.zone_text.ZoneText.{ZoneText}
 
-both_steps : {A B F : Type 0} (first : Result A F) (next : A → Result B F) (b : B) → (first >>= next) ≡ Ok b → (a : A) × ((first ≡ Ok a) × (next a ≡ Ok b))
+-- where two steps are done, each of them is
+pub both_steps : {A B F : Type 0} (first : Result A F) (next : A → Result B F) (b : B) → (first >>= next) ≡ Ok b → (a : A) × ((first ≡ Ok a) × (next a ≡ Ok b))
 both_steps (Ok a) next b e = (a, (refl, e))
 both_steps (Err fault) next b e = absurd cc
 
@@ -35,7 +36,8 @@ which : {A B F : Type 0} (first : Result A F) (next : A → Result B F) (fault :
 which (Ok a) next fault e = at_next a refl e
 which (Err other) next fault e = at_first (let is : other ≡ fault = cc in ap Err is)
 
-at_ok : {T : Type 0} (file line : ℕ) (step : Result T TextCause) (value : T) → at file line step ≡ Ok value → step ≡ Ok value
+-- a step at a line that is done is done
+pub at_ok : {T : Type 0} (file line : ℕ) (step : Result T TextCause) (value : T) → at file line step ≡ Ok value → step ≡ Ok value
 at_ok file line (Ok other) value e = let is : other ≡ value = cc in ap Ok is
 at_ok file line (Err cause) value e = absurd cc
 
@@ -94,8 +96,8 @@ counts_then limits p q r m n first second =
       includes = λ h. second.includes (first.includes h);
     }
 
--- what an entry makes
-abbrev one_seen : Records → Made → Records
+-- the records with one more entry that was seen
+abbrev pub one_seen : Records → Made → Records
 one_seen so_far made = record so_far { context = made.context; rrs = so_far.rrs ++ option_to_list made.rr; seen = so_far.seen + 1 }
 
 made_counts : (room : ℕ) (so_far records : Records) (made : Made) → with_made room so_far made ≡ Ok records

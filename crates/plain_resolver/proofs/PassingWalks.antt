@@ -3,10 +3,9 @@ use Rattle.std.proofs.Common.{◌≡◌, ◌==◌, ℕ, Bool, true, false, List,
 use Rattle.std.specs.Prelude.{◌⊎◌, slice_get, Option, option_map, option_and_then, if◌then◌else◌}
 use Rattle.std.specs.Option.{option_to_list}
 use Rattle.std.specs.List.{flat_map}
-use Rattle.std.proofs.lemmas.Option.{get_or_from_slice_get, slice_get-get_or, slice_get_within}
 use Rattle.dns_data.specs.Name.{Labels}
 use Rattle.dns_data.specs.declared.rr_type.RrType.{RrType}
-use Rattle.dns_data.proofs.Membership.{none_in_nil, has_first, first_or_later, map_has, from_map, flat_map_has, from_flat_map}
+use Rattle.dns_data.proofs.Membership.{none_in_nil, has_first, first_or_later, item_there, place_of_item, map_has, from_map, flat_map_has, from_flat_map}
 use Rattle.net_model.specs.Step.{Setting, Branch, Go, End, next, start}
 use Rattle.net_model.specs.Walk.{IsWalk, led_on, branched, walk_from}
 use Rattle.net_model.specs.declared.walk.State.{State}
@@ -14,14 +13,6 @@ use Rattle.net_model.specs.declared.walk.Walk.{Walk}
 use Rattle.net_model.proofs.AllWalks.{walks_by}
 use Rattle.net_model.proofs.Leads.{GoesOn, EndsBy, branch_taken}
 use Rattle.plain_resolver.specs.Tested.{PassEach, ArePassing, passing_from}
-
--- an item at a place of a list is one of its items
-item_there : {A : Type 0} (xs : List A) (k : ℕ) (x : A) → slice_get xs k ≡ Some x → Contains xs x
-item_there xs k x e = (k, slice_get_within xs k x e, get_or_from_slice_get xs k x x e)
-
--- an item of a list stands at a place of it
-place_of_item : {A : Type 0} (xs : List A) (x : A) → Contains xs x → (k : ℕ) × (slice_get xs k ≡ Some x)
-place_of_item xs x (k, within, is) = (k, slice_get-get_or xs k x within ∙ ap Some is)
 
 module _ {T : Type 0} (fits : T → State → Bool) (setting : Setting) (rtype : RrType) where
   -- it is a walk from the state, and its states pass

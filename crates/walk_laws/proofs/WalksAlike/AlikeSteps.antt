@@ -77,8 +77,8 @@ pub record AreOpen (config : Config) (server above own other : Labels) : Type 0 
 abbrev pub AreNear : Config → Labels → Labels → Labels → Type 0
 AreNear config above own other = (ns : Labels) → nearest_of config ns (above ++ other) ≡ nearest_of config ns (above ++ own)
 
--- so it is for what the deciding redirection of the server's zone makes of the name, where a rewrite is left and it isn't too
--- long; and then it isn't with the other tail
+-- so it is for what the deciding redirection of the server's zone makes of the name, where a rewrite is left and it isn't
+-- too long; and then it isn't with the other tail
 abbrev pub StaysNear : Setting → Labels → ℕ → Labels → Labels → Labels → Type 0
 StaysNear setting server used above own other =
     (zone : Zone) → nearest_of setting.config server above ≡ Some zone → (owner target below : Labels) → open_deciding zone above ≡ ByRedirection owner (Some target)

@@ -41,8 +41,8 @@ module _ (setting : Setting) (rtype : RrType) (own other : Labels) where
   abbrev changed : Walk → Walk
   changed = retail (length own) other
 
-  -- Walks go on from states of a kind to such states alone, and each branches as with the tail replaced, unless its branches
-  -- end overlong.
+  -- Walks go on from states of a kind to such states alone, and each branches as with the tail replaced, unless its
+  -- branches end overlong.
   pub record StepsAlike (Among : State → Type 0) : Type 0 where
     pub alike : (state : State) → Among state → Alike (length own) other state.carried (next setting rtype state) (next setting rtype (retailed_state (length own) other state))
     pub on : (state : State) → Among state → (number : ℕ) (hop : Hop) (to : State) → slice_get (next setting rtype state) number ≡ Some (Go hop to) → Among to

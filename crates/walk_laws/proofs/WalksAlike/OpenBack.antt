@@ -5,6 +5,7 @@ use Rattle.std.specs.Option.{option_to_list}
 use Rattle.std.proofs.lemmas.Simd.{map-map}
 use Rattle.dns_data.specs.Name.{Labels}
 use Rattle.dns_data.specs.declared.rr_type.RrType.{RrType}
+use Rattle.dns_data.proofs.Membership.{item_there}
 use Rattle.net_model.specs.declared.place.Place.{Place}
 use Rattle.net_model.specs.declared.walk.Hop.{Hop}
 use Rattle.net_model.specs.declared.walk.Hop.TheVariants.{Rewrite}
@@ -20,7 +21,7 @@ use Rattle.net_model.proofs.Branches.{each_branch, place_in}
 use Rattle.net_model.proofs.Leads.{EndsBy, GoesOn, branch_taken}
 use Rattle.net_model.proofs.WalkEnds.{item}
 use Rattle.walk_laws.proofs.WalksAlike.AlikeSteps.{map_same, retailed_tail}
-use Rattle.walk_laws.proofs.WalksAlike.OpenWalks.{AllOpen, item_there, open_walks}
+use Rattle.walk_laws.proofs.WalksAlike.OpenWalks.{AllOpen, open_walks}
 use Rattle.walk_laws.proofs.WalksAlike.QueryWalks.{begins_at, some_image, some_images}
 
 module _ (setting : Setting) (rtype : RrType) (own other : Labels) (Among : State → Type 0) (all : AllOpen setting rtype own other Among) where

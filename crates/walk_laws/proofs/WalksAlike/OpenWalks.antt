@@ -1,14 +1,13 @@
 -- Walks of a name and of it with another tail, where no server that walks of the name come to knows more of it than what
 -- stands above the tail: though the configuration may name both, elsewhere.
-use Rattle.std.proofs.Common.{◌≡◌, ◌≢◌, ℕ, ◌+◌, ◌≤◌, Bool, true, false, List, [], ◌∷◌, ◌++◌, map, length, slice_get, Contains, Option, Some, None, is_some, option_map, sym, refl, ap, ◌∙◌, subst, subst₂, inl}
+use Rattle.std.proofs.Common.{◌≡◌, ◌≢◌, ◌+◌, ◌≤◌, Bool, true, false, List, [], ◌∷◌, ◌++◌, map, length, Contains, Option, Some, None, is_some, option_map, sym, refl, ap, ◌∙◌, subst, subst₂, inl}
 use Rattle.std.specs.Prelude.{nat_lt, nat_le, ◌&&◌, if◌then◌else◌}
 use Rattle.std.proofs.lemmas.Bool.{le-leb}
 use Rattle.std.proofs.lemmas.List.{append_cancel_right}
-use Rattle.std.proofs.lemmas.Option.{get_or_from_slice_get, slice_get_within}
 use Rattle.std.proofs.lemmas.Simd.{map-map}
 use Rattle.dns_data.specs.Name.{Labels, wire_octets, swap}
 use Rattle.dns_data.specs.declared.rr_type.RrType.{RrType}
-use Rattle.dns_data.proofs.Membership.{has_first, map_has}
+use Rattle.dns_data.proofs.Membership.{has_first, item_there, map_has}
 use Rattle.net_model.specs.declared.config.Config.{Config}
 use Rattle.net_model.specs.declared.config.Zone.{Zone}
 use Rattle.net_model.specs.declared.found.Found.TheVariants as found_as
@@ -29,12 +28,8 @@ use Rattle.walk_laws.proofs.WalksAlike.AlikeWalks.{StepsAlike}
 use Rattle.walk_laws.proofs.WalksAlike.QueryWalks.{walks_alike}
 use Rattle.walk_laws.proofs.WalksAlike.UnnamedTails.{swapped_below}
 
--- the item with a number is in the list
-pub item_there : {A : Type 0} (xs : List A) (k : ℕ) (x : A) → slice_get xs k ≡ Some x → Contains xs x
-item_there xs k x is = (k, slice_get_within xs k x is, get_or_from_slice_get xs k x x is)
-
--- the name of the state has the query's tail, which is open in the zone that its server asks, as the other one is; and with that
--- it isn't too long
+-- the name of the state has the query's tail, which is open in the zone that its server asks, as the other one is; and with
+-- that it isn't too long
 pub record OpensAt (config : Config) (own other : Labels) (state : State) : Type 0 where
   pub above : Labels
   pub is : state.name ≡ above ++ own

@@ -5,7 +5,7 @@ use Rattle.std.proofs.lemmas.List.Elements.{Contains-append_left, Contains-appen
 use Rattle.dns_data.specs.Name.{Labels}
 use Rattle.dns_data.proofs.Membership.{none_in_nil, has_first, first_or_later}
 use Rattle.label_graph.specs.Targets.{IsPrefixFrom}
-use Rattle.label_graph.proofs.parts.put_fronts.Goals as goal
+use Rattle.label_graph.proofs.fronts.put_fronts.Goals as goal
 
 abbrev AreCounted : Labels → ℕ → ℕ → List Labels → List Labels → Type 0
 AreCounted name from count before names =

@@ -3,7 +3,7 @@ use Rattle.std.specs.List.{common_prefix_len}
 use Rattle.dns_data.specs.Label.{label_eq}
 use Rattle.dns_data.specs.Name.{Labels}
 use Rattle.label_graph.proofs.NewFronts.{shared_known}
-use Rattle.label_graph.proofs.parts.known_fronts.Goals as goal
+use Rattle.label_graph.proofs.fronts.known_fronts.Goals as goal
 
 pub returns-in-Some : goal.returns-in-Some
 returns-in-Some c count few =

@@ -1,7 +1,7 @@
 use Rattle.std.proofs.Common.{ℕ, ◌<◌, List, take, Contains, subst}
 use Rattle.dns_data.specs.Name.{Labels}
 use Rattle.label_graph.proofs.NewFronts.{all_fronts, prefixes_again}
-use Rattle.label_graph.proofs.parts.put_new_fronts.Goals as goal
+use Rattle.label_graph.proofs.fronts.put_new_fronts.Goals as goal
 
 pub returns-clause-fronts : goal.returns-clause-fronts
 returns-clause-fronts c =
