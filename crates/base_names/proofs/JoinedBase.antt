@@ -10,11 +10,10 @@ use Rattle.dns_data.specs.declared.rdata.Rr.{Rr}
 use Rattle.dns_data.proofs.Membership.{none_in_nil, has_first, first_or_later, map_has, from_map, flat_map_has, from_flat_map}
 use Rattle.dns_data.proofs.NameFronts.{Begins}
 use Rattle.net_model.specs.declared.config.Config.{Config}
-use Rattle.net_model.specs.declared.config.Server.{Server}
 use Rattle.net_model.specs.declared.config.Zone.{Zone}
 use Rattle.net_model.specs.Reading.{Ground, Redirection, redirection_of, redirections_of, zones, records, origins_and_owners, joined_ground}
 use Rattle.net_model.proofs.JoinedNames.{front_is_base, base_is_front, root_is_base}
-use Rattle.base_names.specs.Base.{IsInConfig, server_redirections, zone_redirections}
+use Rattle.base_names.specs.Base.{IsInConfig, zone_redirections}
 use Rattle.label_graph.specs.Graphs.{SomeItem}
 use Rattle.label_graph.specs.LiveSet.{HavePrefixes}
 use Rattle.label_graph.specs.Pairs.{redirection, AreSame}
@@ -42,16 +41,14 @@ IsFrontOf name others = SomeItem (λ other. IsPrefixFrom 0 other name) others
 module _ (config : Config) (name : Labels) where
   -- the fronts of a configuration's origins and owners, zone by zone
   of_zones : IsInConfig name config → IsFrontOf name (origins_and_owners config)
-  of_zones (server, has_server, (zone, has_zone, inl front)) =
-      let among : Contains (zones config) zone = flat_map_has (λ (s : Server). s.zones) config.servers server zone has_server has_zone in (
-        zone.origin,
-        Contains-append_left (map (λ (z : Zone). z.origin) (zones config)) (map (λ (r : Rr). r.owner) (records config)) zone.origin
-            (map_has (λ (z : Zone). z.origin) (zones config) zone among),
-        front,
-      )
-  of_zones (server, has_server, (zone, has_zone, inr (rr, has_rr, front))) =
-      let among : Contains (zones config) zone = flat_map_has (λ (s : Server). s.zones) config.servers server zone has_server has_zone in
-      let there : Contains (records config) rr = flat_map_has (λ (z : Zone). z.rrs) (zones config) zone rr among has_rr in (
+  of_zones (zone, has_zone, inl front) = (
+    zone.origin,
+    Contains-append_left (map (λ (z : Zone). z.origin) (zones config)) (map (λ (r : Rr). r.owner) (records config)) zone.origin
+        (map_has (λ (z : Zone). z.origin) (zones config) zone has_zone),
+    front,
+  )
+  of_zones (zone, has_zone, inr (rr, has_rr, front)) =
+      let there : Contains (records config) rr = flat_map_has (λ (z : Zone). z.rrs) (zones config) zone rr has_zone has_rr in (
         rr.owner,
         Contains-append_right (map (λ (z : Zone). z.origin) (zones config)) (map (λ (r : Rr). r.owner) (records config)) rr.owner
             (map_has (λ (r : Rr). r.owner) (records config) rr there),
@@ -63,13 +60,11 @@ module _ (config : Config) (name : Labels) where
       elim (Contains-append_cases (map (λ (z : Zone). z.origin) (zones config)) (map (λ (r : Rr). r.owner) (records config)) start among) [
         | inl origin ↦ (
             let (zone, has_zone, is) = from_map (λ (z : Zone). z.origin) (zones config) start origin in
-            let (server, has_server, inside) = from_flat_map (λ (s : Server). s.zones) config.servers zone has_zone in
-            (server, has_server, (zone, inside, inl (subst (λ (n : Labels). IsPrefixFrom 0 n name) (sym is) front))))
+            (zone, has_zone, inl (subst (λ (n : Labels). IsPrefixFrom 0 n name) (sym is) front)))
         | inr own ↦ (
             let (rr, has_rr, is) = from_map (λ (r : Rr). r.owner) (records config) start own in
             let (zone, has_zone, within) = from_flat_map (λ (z : Zone). z.rrs) (zones config) rr has_rr in
-            let (server, has_server, inside) = from_flat_map (λ (s : Server). s.zones) config.servers zone has_zone in
-            (server, has_server, (zone, inside, inr (rr, within, subst (λ (n : Labels). IsPrefixFrom 0 n name) (sym is) front))))
+            (zone, has_zone, inr (rr, within, subst (λ (n : Labels). IsPrefixFrom 0 n name) (sym is) front)))
       ]
 
 -- the root, the fronts of the configurations' origins and owners and those of the given names are the base names
@@ -167,19 +162,16 @@ module _ {X : Type 0} (config_of : X → Config) (configs : List X) where
         λ some. put.1 (inr (seen.1 some)),
       )
 
--- the redirections of all servers are those of the configuration
+-- the redirections of all zones are those of the configuration
 pub base_redirections : (config : Config) (redirection : Redirection)
-    → Contains (flat_map server_redirections config.servers) redirection ↔ Contains (redirections_of config) redirection
+    → Contains (flat_map zone_redirections (zones config)) redirection ↔ Contains (redirections_of config) redirection
 base_redirections config redirection = (
-  λ has. let (server, has_server, in_server) = from_flat_map server_redirections config.servers redirection has in
-      let (zone, has_zone, in_zone) = from_flat_map zone_redirections server.zones redirection in_server in
+  λ has. let (zone, has_zone, in_zone) = from_flat_map zone_redirections (zones config) redirection has in
       let (rr, has_rr, is) = from_flat_map (λ (r : Rr). redirection_of r.owner r.rdata) zone.rrs redirection in_zone in
       flat_map_has (λ (r : Rr). redirection_of r.owner r.rdata) (records config) rr redirection
-      (flat_map_has (λ (z : Zone). z.rrs) (zones config) zone rr (flat_map_has (λ (s : Server). s.zones) config.servers server zone has_server has_zone) has_rr) is,
+      (flat_map_has (λ (z : Zone). z.rrs) (zones config) zone rr has_zone has_rr) is,
   λ has. let (rr, has_rr, is) = from_flat_map (λ (r : Rr). redirection_of r.owner r.rdata) (records config) redirection has in
       let (zone, has_zone, within) = from_flat_map (λ (z : Zone). z.rrs) (zones config) rr has_rr in
-      let (server, has_server, inside) = from_flat_map (λ (s : Server). s.zones) config.servers zone has_zone in
-      flat_map_has server_redirections config.servers server redirection has_server
-      (flat_map_has zone_redirections server.zones zone redirection inside
-      (flat_map_has (λ (r : Rr). redirection_of r.owner r.rdata) zone.rrs rr redirection within is)),
+      flat_map_has zone_redirections (zones config) zone redirection has_zone
+      (flat_map_has (λ (r : Rr). redirection_of r.owner r.rdata) zone.rrs rr redirection within is),
 )

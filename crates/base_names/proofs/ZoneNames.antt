@@ -1,27 +1,25 @@
 -- The base names of zones and of configurations, by the trees of zones.
-use Rattle.std.proofs.Common.{◌≡◌, ◌∙◌, true, ◌⊎◌, ◌&&◌, Bor, List, [], ◌∷◌, ◌++◌, map, All, AllPairs, Contains, ◌≢◌, inl, inr, sym, subst}
+use Rattle.std.proofs.Common.{◌≡◌, ◌∙◌, true, ◌⊎◌, ◌&&◌, Bor, List, [], ◌∷◌, ◌++◌, map, All, Contains, inl, inr, sym, subst}
 use Rattle.std.specs.Prelude.{◌↔◌}
 use Rattle.std.specs.List.{list_any}
 use Rattle.std.proofs.lemmas.Bool.{and_from, and_parts, or_cases, or_right}
 use Rattle.std.proofs.lemmas.List.Elements.{Contains-append_left, Contains-append_right, Contains-append_cases}
 use Rattle.dns_data.specs.Name.{Labels, name_eq, is_prefix}
 use Rattle.dns_data.specs.declared.rdata.Rr.{Rr}
-use Rattle.dns_data.proofs.Membership.{all_from_contains, map_has, none_in_nil}
+use Rattle.dns_data.proofs.Membership.{all_from_contains, from_flat_map, map_has, none_in_nil}
 use Rattle.dns_data.proofs.NameFronts.{is_prefix_tells, is_prefix_told, two_fronts}
 use Rattle.dns_data.proofs.Names.{name_eq_decides}
 use Rattle.dns_data.proofs.Searches.{any_has, from_any}
 use Rattle.net_model.specs.declared.config.Config.{Config}
 use Rattle.net_model.specs.declared.config.Server.{Server}
 use Rattle.net_model.specs.declared.config.Zone.{Zone}
-use Rattle.net_model.specs.Reading.{Redirection, redirections_of, joined_ground}
+use Rattle.net_model.specs.Reading.{Redirection, redirections_of, joined_ground, zones}
 use Rattle.net_model.specs.Zone.{exists_in}
-use Rattle.net_model.specs.Configured.{KeepsWithin, IsConsistent, AreConsistent}
+use Rattle.net_model.specs.Configured.{KeepsWithin, AreConsistent}
 use Rattle.zone_tree.specs.Tree.{ZoneTree}
-use Rattle.zone_lookup.specs.Firsts.{AreFirstsByName}
-use Rattle.zone_lookup.specs.Hosts.{AreHostsOf, AreTreesOf}
-use Rattle.zone_lookup.proofs.AllFirsts.{from_all, has_all}
+use Rattle.zone_lookup.specs.Hosts.{HaveZonesOf}
 use Rattle.label_graph.specs.declared.pair.Pair.{Pair}
-use Rattle.base_names.specs.Base.{IsInConfig, IsInServer, IsInZone, server_redirections, zone_redirections}
+use Rattle.base_names.specs.Base.{IsInConfig, IsInZone, zone_redirections}
 use Rattle.label_graph.specs.Graphs.{SomeItem}
 use Rattle.label_graph.specs.LiveSet.{HavePrefixes}
 use Rattle.label_graph.specs.Pairs.{redirection, ground_with, AreSame}
@@ -92,60 +90,39 @@ zone_prefixes zone old new have put =
       ];
     }
 
--- ---- zones and servers in the order of names
+-- ---- the trees of all zones
 
-module _ {X Y : Type 0} (tell : X → Y) (name_of : Y → Labels) (all : List Y) (items : List X) (are : AreFirstsByName tell name_of all items)
-    (differ : AllPairs (λ a b. name_of a ≢ name_of b) all) where
-  -- what is told of some of them is told of some value
-  some_told : (P : Y → Type 0) → SomeItem (λ x. P (tell x)) items ↔ SomeItem P all
+module _ (config : Config) (trees : List ZoneTree) (have : HaveZonesOf config trees) where
+  -- what is told of some tree's zone is told of some zone of the configuration
+  some_told : (P : Zone → Type 0) → SomeItem (λ tree. P tree.zone) trees ↔ SomeItem P (zones config)
   some_told P =
-      let seen = some_seen tell P items in (
-        λ some. let (y, has, p) = seen.0 some in (y, from_all tell name_of all items are y has, p),
-        λ (y, has, p). seen.1 (y, has_all tell name_of all items are differ y has, p),
+      let seen = some_seen (λ (tree : ZoneTree). tree.zone) P trees in (
+        λ some. let (zone, has, p) = seen.0 some in (zone, (have zone).0 has, p),
+        λ (zone, has, p). seen.1 (zone, (have zone).1 has, p),
       )
 
--- the base names of the zones of a server's trees are those of the server
-pub trees_names : (server : Server) (trees : List ZoneTree) → AreTreesOf server.zones trees → IsConsistent server → (name : Labels)
-    → SomeItem (λ tree. IsInZone name tree.zone) trees ↔ IsInServer name server
-trees_names server trees are is name =
-    some_told (λ (tree : ZoneTree). tree.zone) (λ (zone : Zone). zone.origin) server.zones trees are is.origins (IsInZone name)
-
--- and so are the redirections
-pub trees_pairs : (server : Server) (trees : List ZoneTree) → AreTreesOf server.zones trees → IsConsistent server → (pair : Redirection)
-    → SomeItem (λ tree. Contains (zone_redirections tree.zone) pair) trees ↔ Contains (server_redirections server) pair
-trees_pairs server trees are is pair =
-    let told = some_told (λ (tree : ZoneTree). tree.zone) (λ (zone : Zone). zone.origin) server.zones trees are is.origins (λ (zone : Zone). Contains (zone_redirections zone) pair) in
-    let flat = some_flat zone_redirections server.zones pair in (
-      λ some. flat.0 (told.0 some),
-      λ has. told.1 (flat.1 has),
-    )
-
--- the records of the zone of each tree of a server lie within it
-pub trees_within : (server : Server) (trees : List ZoneTree) → AreTreesOf server.zones trees → IsConsistent server → All (λ tree. KeepsWithin tree.zone) trees
-trees_within server trees are is =
-    all_from_contains (λ (tree : ZoneTree). KeepsWithin tree.zone) trees
-    (λ tree has. is.within tree.zone
-    (from_all (λ (one : ZoneTree). one.zone) (λ (zone : Zone). zone.origin) server.zones trees are tree.zone (map_has (λ (one : ZoneTree). one.zone) trees tree has)))
-
-module _ (config : Config) (hosts : List Server) (are : AreHostsOf config.servers hosts) (consistent : AreConsistent config.servers) where
-  -- a server in the order of names is consistent
-  pub host_consistent : (host : Server) → Contains hosts host → IsConsistent host
-  host_consistent host has =
-      consistent.each host (from_all (λ (one : Server). one) (λ (server : Server). server.name) config.servers hosts are host (map_has (λ (one : Server). one) hosts host has))
-
-  -- the base names of the servers are those of the configuration
-  pub hosts_names : (name : Labels) → SomeItem (IsInServer name) hosts ↔ IsInConfig name config
-  hosts_names name = some_told (λ (one : Server). one) (λ (server : Server). server.name) config.servers hosts are consistent.names (IsInServer name)
+  -- the base names of the trees' zones are those of the configuration
+  pub trees_names : (name : Labels) → SomeItem (λ tree. IsInZone name tree.zone) trees ↔ IsInConfig name config
+  trees_names name = some_told (IsInZone name)
 
   -- and so are the redirections
-  pub hosts_pairs : (pair : Redirection) → SomeItem (λ server. Contains (server_redirections server) pair) hosts ↔ Contains (redirections_of config) pair
-  hosts_pairs pair =
-      let told = some_told (λ (one : Server). one) (λ (server : Server). server.name) config.servers hosts are consistent.names (λ (server : Server). Contains (server_redirections server) pair) in
-      let flat = some_flat server_redirections config.servers pair in
+  pub trees_pairs : (pair : Redirection) → SomeItem (λ tree. Contains (zone_redirections tree.zone) pair) trees ↔ Contains (redirections_of config) pair
+  trees_pairs pair =
+      let told = some_told (λ (zone : Zone). Contains (zone_redirections zone) pair) in
+      let flat = some_flat zone_redirections (zones config) pair in
       let all = base_redirections config pair in (
         λ some. all.0 (flat.0 (told.0 some)),
         λ has. told.1 (flat.1 (all.1 has)),
       )
+
+  -- the records of each tree's zone lie within it
+  pub trees_within : AreConsistent config.servers → All (λ tree. KeepsWithin tree.zone) trees
+  trees_within consistent =
+      all_from_contains (λ (tree : ZoneTree). KeepsWithin tree.zone) trees
+      (λ tree has.
+      let (server, among, inside) = from_flat_map (λ (s : Server). s.zones) config.servers tree.zone
+      ((have tree.zone).0 (map_has (λ (one : ZoneTree). one.zone) trees tree has)) in
+      (consistent.each server among).within tree.zone inside)
 
 -- ---- several configurations
 

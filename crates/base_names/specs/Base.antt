@@ -3,9 +3,8 @@ use Rattle.std.specs.Prelude.{◌⊎◌, List}
 use Rattle.std.specs.List.{flat_map}
 use Rattle.dns_data.specs.Name.{Labels}
 use Rattle.net_model.specs.declared.config.Config.{Config}
-use Rattle.net_model.specs.declared.config.Server.{Server}
 use Rattle.net_model.specs.declared.config.Zone.{Zone}
-use Rattle.net_model.specs.Reading.{Redirection, redirection_of}
+use Rattle.net_model.specs.Reading.{Redirection, redirection_of, zones}
 use Rattle.label_graph.specs.Graphs.{SomeItem}
 use Rattle.label_graph.specs.Targets.{IsPrefixFrom}
 
@@ -13,18 +12,10 @@ use Rattle.label_graph.specs.Targets.{IsPrefixFrom}
 abbrev pub IsInZone : Labels → Zone → Type 0
 IsInZone name zone = IsPrefixFrom 0 zone.origin name ⊎ SomeItem (λ rr. IsPrefixFrom 0 rr.owner name) zone.rrs
 
--- the name is a front of the origin, or of the owner of a record, of one of the server's zones
-abbrev pub IsInServer : Labels → Server → Type 0
-IsInServer name server = SomeItem (IsInZone name) server.zones
-
 -- the name is a front of the origin, or of the owner of a record, of one of the configuration's zones
 abbrev pub IsInConfig : Labels → Config → Type 0
-IsInConfig name config = SomeItem (IsInServer name) config.servers
+IsInConfig name config = SomeItem (IsInZone name) (zones config)
 
 -- the redirections of a zone's records
 abbrev pub zone_redirections : Zone → List Redirection
 zone_redirections zone = flat_map (λ rr. redirection_of rr.owner rr.rdata) zone.rrs
-
--- the redirections of the records of a server's zones
-abbrev pub server_redirections : Server → List Redirection
-server_redirections server = flat_map zone_redirections server.zones

@@ -76,9 +76,7 @@ fn put_hosts(
     // The servers are read, so that it is known here what holds of those of each configuration.
     let config = hosts.config();
     let _ = config.servers();
-    for host in hosts.in_order() {
-        put_trees(alloc, host.in_order(), names, dnames)?;
-    }
+    put_trees(alloc, hosts.trees(), names, dnames)?;
     Ok(())
 }
 

@@ -5,7 +5,8 @@
 //! `joint_base_graph` that of several configurations and of some names more. Both answer `NoMemory` where there is no room.
 //!
 //! Costs: the names of each zone come from its tree, where they stand in order, zone after zone in the order of their
-//! origins: so the sort of all names finds them nearly in order. Each name is copied once.
+//! origins: so the sort of all names finds them nearly in order. Each name is copied once. Of equal zones, which share a
+//! tree, one counts.
 #![tactic(auto)]
 
 mod base;

@@ -1,6 +1,7 @@
 -- Tables of what referrals show: what their rows tell of the zones that servers hold.
-use Rattle.std.proofs.Common.{◌≡◌, ◌<◌, ◌≤◌, ◌+◌, ℕ, Less, Greater, is_eq, inl, inr, arith, Bool, true, false, cond, List, [], ◌∷◌, ◌++◌, map, Some, None, sym, refl, ap, ◌∙◌, subst}
-use Rattle.std.specs.Prelude.{option_and_then}
+use Rattle.std.proofs.Common.{◌≡◌, ◌<◌, ◌≤◌, ◌+◌, ℕ, zero, suc, length, get_or, Less, Greater, is_eq, inl, inr, arith, Bool, true, false, cond, List, [], ◌∷◌, ◌++◌, map, Bor, IfSome, Option, Some, None, sym, refl, ap, ◌∙◌, subst}
+use Rattle.std.specs.Prelude.{option_and_then, option_map}
+use Rattle.std.specs.Slice.{IsItemAt}
 use Rattle.std.specs.List.{AllByRecursion, AllZip}
 use Rattle.std.specs.Cmp.{nat_cmp_is}
 use Rattle.std.proofs.lemmas.Bool.{cases_lt}
@@ -19,11 +20,15 @@ use Rattle.net_model.specs.Nearest.{held_zone, server_named, zone_with_origin}
 use Rattle.net_model.specs.Zone.{exists_in}
 use Rattle.zone_tree.specs.Tree.{ZoneTree, IsNode, name_of}
 use Rattle.zone_lookup.specs.CutFlags.{flags_of, is_quiet}
-use Rattle.zone_lookup.specs.CutTable.{AreRowsOf, HostRow, IsHostRow, IsPut, IsTableOf, AreCutFlags, IsWholeTree, IsZoneRow, HasFlagsOf, ZoneRow, referrals_at, flags_in_zone, flags_in_host}
+use Rattle.zone_lookup.specs.CutTable.{AreRowsOf, HostRow, IsHostRow, IsPut, IsTableOf, AreCutFlags, IsWholeTree, IsZoneRow, HasAllFlags, HasFlagsOf, ZoneRow, referrals_at, flags_in_zone, flags_in_host}
 use Rattle.zone_lookup.specs.Hosts.{AreTreesOf}
 use Rattle.zone_lookup.specs.Named.{item_named}
 use Rattle.zone_lookup.specs.declared.cut_flags.CutFlags.{CutFlags}
-use Rattle.zone_lookup.proofs.AllFirsts.{mapped_some}
+
+-- what is mapped comes of an item
+mapped_some : {X Y : Type 0} (f : X → Y) (some : Option X) (y : Y) → option_map f some ≡ Some y → (x : X) × (some ≡ Some x) × (f x ≡ y)
+mapped_some f None y e = cc
+mapped_some f (Some x) y e = (x, refl, cc)
 
 module _ {X Y : Type 0} (R : X → Y → Type 0) (name_of_x : X → Labels) (name_of_y : Y → Labels) (same : (x : X) (y : Y) → R x y → name_of_y y ≡ name_of_x x) (name : Labels) where
   -- beside the item of a name stands the one of that name in the other list
@@ -58,19 +63,19 @@ one_tree a b whole other same =
 module _ (config : Config) (deps : Deps) where
   -- rows beside the trees of a server's zones are the server's row
   pub row_of_host : (host : Server) (trees : List ZoneTree) (row : HostRow) → row.server ≡ host.name → AreTreesOf host.zones trees
-      → AllZip (IsZoneRow config deps host.name) trees row.zones → IsHostRow config deps host row
+      → AllZip (IsZoneRow config deps) trees row.zones → IsHostRow config deps host row
   row_of_host host trees row named are beside =
       record {
         name = named;
         flags = λ is_host tree node held whole within.
             let found = mapped_some (λ (t : ZoneTree). t.zone) (item_named (λ (t : ZoneTree). t.zone.origin) trees tree.zone.origin) tree.zone (are.firsts tree.zone.origin ∙ held) in
-            let there = beside_named (IsZoneRow config deps host.name) (λ (t : ZoneTree). t.zone.origin) (λ (z : ZoneRow). z.origin) (λ t z is. is.origin)
+            let there = beside_named (IsZoneRow config deps) (λ (t : ZoneTree). t.zone.origin) (λ (z : ZoneRow). z.origin) (λ t z is. is.origin)
             tree.zone.origin trees row.zones found.0 beside found.1 in
             let one : found.0 ≡ tree = one_tree found.0 tree there.2.whole whole found.2 in
             let its : held_zone config host.name tree.zone.origin ≡ Some tree.zone =
             ap (option_and_then (λ (h : Server). zone_with_origin h tree.zone.origin)) is_host ∙ held in
             let tells : HasFlagsOf config deps host.name tree (IsNode tree) there.0.cuts =
-            subst (λ (t : ZoneTree). held_zone config host.name t.zone.origin ≡ Some t.zone → HasFlagsOf config deps host.name t (IsNode t) there.0.cuts) one there.2.flags its in
+            subst (λ (t : ZoneTree). HasAllFlags config deps t (IsNode t) there.0.cuts) one there.2.flags host.name its in
             subst (AreCutFlags config deps (referrals_at host.name tree.zone (name_of tree node)))
             (sym (ap (option_and_then (λ (z : ZoneRow). flags_in_zone z.cuts node)) there.1)) (tells node within);
       }
@@ -150,3 +155,23 @@ beside_names R name_of_x name_of_y same (first ∷ xs) (other ∷ ys) beside =
     let here : name_of_y other ≡ name_of_x first = same first other beside.0 in
     let later : map name_of_y ys ≡ map name_of_x xs = beside_names R name_of_x name_of_y same xs ys beside.1 in
     cc
+
+-- beside an item stands the one at its place
+beside_at : {X Y : Type 0} (R : X → Y → Type 0) (xs : List X) (ys : List Y) (place : ℕ) (d : X) (e : Y) → AllZip R xs ys → place < length xs
+    → R (get_or xs place d) (get_or ys place e)
+beside_at R [] ys place d e beside within = absurd (omega (arith, within))
+beside_at R (x ∷ xs) [] place d e beside within = absurd beside
+beside_at R (x ∷ xs) (y ∷ ys) zero d e beside within = beside.0
+beside_at R (x ∷ xs) (y ∷ ys) (suc place) d e beside within = beside_at R xs ys place d e beside.1 (omega (arith, within))
+
+-- the row at the place of one of the trees is that of each whole tree of an equal zone
+pub row_at : (trees : List ZoneTree) (rows : List ZoneRow) (place : ℕ) (made : Bor ZoneTree) (tree : ZoneTree) (row : Option (Bor ZoneRow))
+    → IsItemAt trees place (Some made) → IsItemAt rows place row → IsWholeTree tree → made.now.zone ≡ tree.zone
+    → IfSome row (λ one. (config : Config) (deps : Deps) → AllZip (IsZoneRow config deps) trees rows → IsZoneRow config deps tree one.now)
+row_at trees rows place made tree None at is whole same = tt
+row_at trees rows place made tree (Some row) at is whole same = λ config deps beside.
+    let of_made : IsZoneRow config deps made.now row.now =
+    subst (λ (t : ZoneTree). IsZoneRow config deps t row.now) (sym at.1)
+    (subst (λ (r : ZoneRow). IsZoneRow config deps (get_or trees place made.now) r) (sym is.1)
+    (beside_at (IsZoneRow config deps) trees rows place made.now row.now beside at.3.0)) in
+    subst (λ (t : ZoneTree). IsZoneRow config deps t row.now) (one_tree made.now tree of_made.whole whole same) of_made

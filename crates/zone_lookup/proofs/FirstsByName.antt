@@ -41,6 +41,13 @@ unfolding IsStrictlySortedBy
 names_rise [] sorted = tt
 names_rise (key ∷ keys) sorted = (all_rise key keys sorted.0, names_rise keys sorted.1)
 
+-- the item before a place, and those from that place on
+pub from_before : {Y : Type 0} (all : List Y) (left : ℕ) (item : Y) → 0 < left → left ≤ length all → item ≡ get_or all (left - 1) item
+    → drop (left - 1) all ≡ item ∷ drop left all
+from_before all left item some within is =
+    let up : (left - 1) + 1 ≡ left = omega arith in
+    drop_more all (left - 1) item (omega arith) ∙ ap (λ y. y ∷ drop ((left - 1) + 1) all) (sym is) ∙ ap (λ (n : ℕ). item ∷ drop n all) up
+
 module _ {X Y : Type 0} (tell : X → Y) (name_of : Y → Labels) where
   abbrev IsKeyed : Bor Labels × X → Type 0
   IsKeyed entry = entry.0.now ≡ name_of (tell entry.1)
@@ -83,11 +90,7 @@ module _ {X Y : Type 0} (tell : X → Y) (name_of : Y → Labels) where
       → new.entries ≡ insert_entry borrowed_cmp old.entries key x → Updates borrowed_cmp old new key (Some x)
       → FindsFirsts tell name_of (drop (left - 1) all) new
   put_before all left item key x old new some within is told keyed finds entries updates =
-      let before = left - 1 in
-      let up : before + 1 ≡ left = omega arith in
-      let opened : drop before all ≡ item ∷ drop left all =
-      drop_more all before item (omega arith) ∙ ap (λ (y : Y). y ∷ drop (before + 1) all) (sym is) ∙ ap (λ (n : ℕ). item ∷ drop n all) up in
-      subst (λ (ys : List Y). FindsFirsts tell name_of ys new) (sym opened)
+      subst (λ (ys : List Y). FindsFirsts tell name_of ys new) (sym (from_before all left item some within is))
       (subst (λ (y : Y). FindsFirsts tell name_of (y ∷ drop left all) new) told
       (put_first (drop left all) old new key x (keyed ∙ ap name_of (sym told)) finds entries updates))
 

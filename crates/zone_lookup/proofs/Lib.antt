@@ -1,4 +1,3 @@
-pub mod AllFirsts
 mod CutTables
 pub mod CutsInside
 pub mod FirstsByName
@@ -13,6 +12,7 @@ mod NearestHere
 pub mod NearestZones
 mod OriginsBefore
 mod PlacesNear
+mod PutZones
 pub mod RedirectionTargets
 pub mod ReferralParts
 pub mod Replying

@@ -1,6 +1,6 @@
 -- Sound referrals.
 use Rattle.std.proofs.Common.{◌≡◌, Bool, true, false, not, Option, Some, None, ℕ, refl, sym, ap, ◌∙◌}
-use Rattle.std.specs.Prelude.{◌&&◌, is_some, option_and_then}
+use Rattle.std.specs.Prelude.{◌&&◌, ◌||◌, is_some, option_and_then}
 use Rattle.std.specs.Option.{option_map_or}
 use Rattle.dns_data.specs.Name.{is_prefix, is_among}
 use Rattle.net_model.specs.Nearest.{held_zone, is_top, server_named, zone_with_origin}
@@ -12,17 +12,17 @@ use Rattle.net_model.specs.declared.config.Zone.{Zone}
 use Rattle.net_model.specs.declared.deps.Deps.{Deps}
 use Rattle.net_model.specs.declared.place.Cut.{Cut}
 use Rattle.zone_tree.specs.Tree.{ZoneTree, name_of}
-use Rattle.zone_lookup.specs.CutFlags.{flags_of, glue_alone, lacks_address}
+use Rattle.zone_lookup.specs.CutFlags.{flags_by, flags_of, glue_alone, lacks_address}
 use Rattle.zone_lookup.specs.CutTable.{cut_to}
 use Rattle.zone_lookup.specs.Sides.{addresses_differ, glue_of_sides, sides_differ, zones_differ}
 use Rattle.zone_lookup.specs.Sound.{IsSound, depends_on_itself, wants_glue}
 
 -- where the name server holds no zone there is nothing that differs
-same_alone : (cut : Cut) (above : Option Zone) → sides_differ cut above None ≡ false
+same_alone : (cut : Cut) (above : Option Zone) → sides_differ cut.cut above None ≡ false
 same_alone cut None = refl
 same_alone cut (Some above) = refl
 
-addresses_alone : (below : Bool) (cut : Cut) (above : Option Zone) → (below && glue_of_sides cut above None) ≡ false
+addresses_alone : (below : Bool) (cut : Cut) (above : Option Zone) → (below && glue_of_sides cut.ns above None) ≡ false
 addresses_alone false cut above = refl
 addresses_alone true cut None = refl
 addresses_alone true cut (Some above) = refl
@@ -48,11 +48,11 @@ module _ (config : Config) (deps : Deps) (cut : Cut) (unhosted : server_named co
   none_held = ap (option_and_then (λ (holder : Server). zone_with_origin holder cut.cut)) unhosted
 
   same_servers : zones_differ config cut ≡ false
-  same_servers = ap (sides_differ cut above) none_held ∙ same_alone cut above
+  same_servers = ap (sides_differ cut.cut above) none_held ∙ same_alone cut above
 
   same_addresses : addresses_differ config cut ≡ false
   same_addresses =
-      ap (λ (held : Option Zone). is_prefix cut.cut cut.ns && glue_of_sides cut above held) none_held ∙ addresses_alone (is_prefix cut.cut cut.ns) cut above
+      ap (λ (held : Option Zone). is_prefix cut.cut cut.ns && glue_of_sides cut.ns above held) none_held ∙ addresses_alone (is_prefix cut.cut cut.ns) cut above
 
   independent : depends_on_itself config deps cut ≡ false
   independent =
@@ -70,3 +70,23 @@ module _ (config : Config) (deps : Deps) (cut : Cut) (unhosted : server_named co
       let glue : addresses_differ config cut ≡ false = same_addresses in
       let cyclic : depends_on_itself config deps cut ≡ false = independent in
       cc
+
+-- an address that isn't known is learnt if each server is followed
+pub cyclic_told : (top glue least greatest : Bool) → (not (top || glue || least) && greatest) ≡ (not top && not glue && greatest && not least)
+cyclic_told true glue least greatest = refl
+cyclic_told false true least greatest = refl
+cyclic_told false false true true = refl
+cyclic_told false false true false = refl
+cyclic_told false false false true = refl
+cyclic_told false false false false = refl
+
+-- what a referral to a configured name server shows is told by the zones at both sides
+pub flags_told : (config : Config) (deps : Deps) (cut : Cut) (host : Server) (first other : Option Zone) → server_named config cut.ns ≡ Some host
+    → held_zone config cut.server cut.zone ≡ first → other ≡ zone_with_origin host cut.cut
+    → flags_by config deps true first other cut.cut cut.ns ≡ flags_of config deps cut
+flags_told config deps cut host first other named held serves =
+    let own : held_zone config cut.ns cut.cut ≡ other = ap (option_and_then (λ (holder : Server). zone_with_origin holder cut.cut)) named ∙ sym serves in
+    ap (λ (zone : Option Zone). flags_by config deps true zone other cut.cut cut.ns) (sym held)
+    ∙ ap (λ (zone : Option Zone). flags_by config deps true (held_zone config cut.server cut.zone) zone cut.cut cut.ns) (sym own)
+    ∙ ap (λ (configured : Bool). flags_by config deps configured (held_zone config cut.server cut.zone) (held_zone config cut.ns cut.cut) cut.cut cut.ns)
+    (sym (ap is_some named))

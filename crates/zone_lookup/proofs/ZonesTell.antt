@@ -67,7 +67,7 @@ module _ (zone : Zone) (name : Labels) (inside : is_prefix zone.origin name ≡ 
 pub differ_told : (config : Config) (cut : Cut) → zones_differ config cut ≡ true → ZonesDiffer config cut
 differ_told config cut e = by (held_zone config cut.server cut.zone) refl (held_zone config cut.ns cut.cut) refl e where
   by : (one : Option Zone) → held_zone config cut.server cut.zone ≡ one → (other : Option Zone) → held_zone config cut.ns cut.cut ≡ other
-      → sides_differ cut one other ≡ true → ZonesDiffer config cut
+      → sides_differ cut.cut one other ≡ true → ZonesDiffer config cut
   by None is other also e = cc
   by (Some above) is None also e = cc
   by (Some above) is (Some below) also e =
@@ -80,8 +80,8 @@ differ_told config cut e = by (held_zone config cut.server cut.zone) refl (held_
 -- where the zones at both sides of a cut differ, the test says so
 pub told_differ : (config : Config) (cut : Cut) → ZonesDiffer config cut → zones_differ config cut ≡ true
 told_differ config cut zones =
-    ap (λ one. sides_differ cut one (held_zone config cut.ns cut.cut)) zones.sides.refers
-    ∙ (ap (sides_differ cut (Some zones.sides.above)) zones.sides.serves
+    ap (λ one. sides_differ cut.cut one (held_zone config cut.ns cut.cut)) zones.sides.refers
+    ∙ (ap (sides_differ cut.cut (Some zones.sides.above)) zones.sides.serves
     ∙ not_from_false (names_eq (ns_names zones.sides.above cut.cut) (ns_names zones.sides.below cut.cut))
     (false_from_ne_true (names_eq (ns_names zones.sides.above cut.cut) (ns_names zones.sides.below cut.cut))
     (λ e. zones.differ ((names_decide (ns_names zones.sides.above cut.cut) (ns_names zones.sides.below cut.cut)).0 e))))
@@ -109,11 +109,11 @@ told_both above below some others differ =
 -- where the test says that the addresses at both sides of a cut differ, they do
 pub other_addresses : (config : Config) (cut : Cut) → addresses_differ config cut ≡ true → AddressesDiffer config cut
 other_addresses config cut e =
-    let parts = and_parts (is_prefix cut.cut cut.ns) (glue_of_sides cut (held_zone config cut.server cut.zone) (held_zone config cut.ns cut.cut)) e in
+    let parts = and_parts (is_prefix cut.cut cut.ns) (glue_of_sides cut.ns (held_zone config cut.server cut.zone) (held_zone config cut.ns cut.cut)) e in
     by parts.0 (held_zone config cut.server cut.zone) refl (held_zone config cut.ns cut.cut) refl parts.1
   where
     by : is_prefix cut.cut cut.ns ≡ true → (one : Option Zone) → held_zone config cut.server cut.zone ≡ one → (other : Option Zone)
-        → held_zone config cut.ns cut.cut ≡ other → glue_of_sides cut one other ≡ true → AddressesDiffer config cut
+        → held_zone config cut.ns cut.cut ≡ other → glue_of_sides cut.ns one other ≡ true → AddressesDiffer config cut
     by inside None is other also e = cc
     by inside (Some above) is None also e = cc
     by inside (Some above) is (Some below) also e =
@@ -129,9 +129,9 @@ other_addresses config cut e =
 -- where the addresses at both sides of a cut differ, the test says so
 pub told_addresses : (config : Config) (cut : Cut) → AddressesDiffer config cut → addresses_differ config cut ≡ true
 told_addresses config cut zones =
-    and_from (is_prefix cut.cut cut.ns) (glue_of_sides cut (held_zone config cut.server cut.zone) (held_zone config cut.ns cut.cut)) zones.inside
-    (ap (λ one. glue_of_sides cut one (held_zone config cut.ns cut.cut)) zones.sides.refers
-    ∙ (ap (glue_of_sides cut (Some zones.sides.above)) zones.sides.serves
+    and_from (is_prefix cut.cut cut.ns) (glue_of_sides cut.ns (held_zone config cut.server cut.zone) (held_zone config cut.ns cut.cut)) zones.inside
+    (ap (λ one. glue_of_sides cut.ns one (held_zone config cut.ns cut.cut)) zones.sides.refers
+    ∙ (ap (glue_of_sides cut.ns (Some zones.sides.above)) zones.sides.serves
     ∙ told_both (addresses zones.sides.above cut.ns) (addresses zones.sides.below cut.ns) zones.above zones.below zones.differ))
 
 -- where the test says that a delegation wants glue, it does

@@ -75,11 +75,16 @@ abbrev pub HasFlagsOf : Config → Deps → Labels → ZoneTree → (ℕ → Typ
 HasFlagsOf config deps server tree among cuts =
     (node : ℕ) → among node → AreCutFlags config deps (referrals_at server tree.zone (name_of tree node)) (flags_in_zone cuts node)
 
--- the row is that of the tree's zone, if the server holds it
-pub record IsZoneRow (config : Config) (deps : Deps) (server : Labels) (tree : ZoneTree) (row : ZoneRow) : Type 0 where
+-- it has them for each server that holds the tree's zone
+abbrev pub HasAllFlags : Config → Deps → ZoneTree → (ℕ → Type 0) → List (ℕ × List CutFlags) → Type 0
+HasAllFlags config deps tree among cuts =
+    (server : Labels) → held_zone config server tree.zone.origin ≡ Some tree.zone → HasFlagsOf config deps server tree among cuts
+
+-- the row is that of the tree's zone, for each server that holds it
+pub record IsZoneRow (config : Config) (deps : Deps) (tree : ZoneTree) (row : ZoneRow) : Type 0 where
   pub origin : row.origin ≡ tree.zone.origin
   pub whole : IsWholeTree tree
-  pub flags : held_zone config server tree.zone.origin ≡ Some tree.zone → HasFlagsOf config deps server tree (IsNode tree) row.cuts
+  pub flags : HasAllFlags config deps tree (IsNode tree) row.cuts
 
 -- the row is that of the server's zones, if it is the one of its name
 pub record IsHostRow (config : Config) (deps : Deps) (host : Server) (row : HostRow) : Type 0 where

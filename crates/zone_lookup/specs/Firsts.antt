@@ -1,5 +1,5 @@
 -- Of several values with one name the first: in a list in the order of names, and in a map by names.
-use Rattle.std.specs.Prelude.{◌≡◌, List, map}
+use Rattle.std.specs.Prelude.{◌≡◌, ◌↔◌, ◌⊎◌, List, map, Contains}
 use Rattle.std.specs.Borrow.{Bor}
 use Rattle.std.specs.BTreeMap.{BTreeMap}
 use Rattle.std.specs.List.{find, AllByRecursion}
@@ -8,6 +8,11 @@ use Rattle.std.specs.Map.{lookup}
 use Rattle.std.specs.Option.{option_map}
 use Rattle.std.specs.Ordering.{is_eq}
 use Rattle.dns_data.specs.Name.{Labels, name_eq, name_cmp}
+use Rattle.net_model.specs.declared.config.Zone.{Zone}
+
+-- the zones are put to others
+abbrev pub ArePut : List Zone → List Zone → List Zone → Type 0
+ArePut more old new = (zone : Zone) → Contains new zone ↔ (Contains old zone ⊎ Contains more zone)
 
 module _ {X Y : Type 0} (tell : X → Y) (name_of : Y → Labels) where
   -- the items stand in the order of their names, and of each name there is the first of all that have it

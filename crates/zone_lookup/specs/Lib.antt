@@ -23,3 +23,4 @@ pub mod Sound
 pub mod Steps
 pub mod Tops
 pub mod Walker
+pub mod ZoneCuts

@@ -16,26 +16,26 @@ abbrev pub names_eq : List Labels → List Labels → Bool
 names_eq a b = pointwise name_eq a b
 
 -- both zones are there, and list other name servers at the cut
-abbrev pub sides_differ : Cut → Option Zone → Option Zone → Bool
+abbrev pub sides_differ : Labels → Option Zone → Option Zone → Bool
 sides_differ cut None below = false
 sides_differ cut (Some above) None = false
-sides_differ cut (Some above) (Some below) = not (names_eq (ns_names above cut.cut) (ns_names below cut.cut))
+sides_differ cut (Some above) (Some below) = not (names_eq (ns_names above cut) (ns_names below cut))
 
 -- the delegated zone lists other name servers than the referring one
 abbrev pub zones_differ : Config → Cut → Bool
-zones_differ config cut = sides_differ cut (held_zone config cut.server cut.zone) (held_zone config cut.ns cut.cut)
+zones_differ config cut = sides_differ cut.cut (held_zone config cut.server cut.zone) (held_zone config cut.ns cut.cut)
 
 -- both lists have data, and not the same
 abbrev pub both_differ : List Rdata → List Rdata → Bool
 both_differ above below = not (length above == 0) && not (length below == 0) && not (pointwise data_eq above below)
 
 -- both zones are there, and hold other addresses of the name server
-abbrev pub glue_of_sides : Cut → Option Zone → Option Zone → Bool
-glue_of_sides cut None below = false
-glue_of_sides cut (Some above) None = false
-glue_of_sides cut (Some above) (Some below) = both_differ (addresses above cut.ns) (addresses below cut.ns)
+abbrev pub glue_of_sides : Labels → Option Zone → Option Zone → Bool
+glue_of_sides ns None below = false
+glue_of_sides ns (Some above) None = false
+glue_of_sides ns (Some above) (Some below) = both_differ (addresses above ns) (addresses below ns)
 
 -- the name server is at or below the cut, and both zones hold addresses of it, and not the same ones
 abbrev pub addresses_differ : Config → Cut → Bool
 addresses_differ config cut =
-    is_prefix cut.cut cut.ns && glue_of_sides cut (held_zone config cut.server cut.zone) (held_zone config cut.ns cut.cut)
+    is_prefix cut.cut cut.ns && glue_of_sides cut.ns (held_zone config cut.server cut.zone) (held_zone config cut.ns cut.cut)

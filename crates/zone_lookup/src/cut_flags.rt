@@ -1,21 +1,23 @@
 //! What a referral shows, whatever comes behind it, as flags.
 
-ghost use Rattle.std.specs.Prelude.{◌≡◌, ◌++◌, true, IfOk, OnOk};
-ghost use Rattle.dns_data.specs.Name.{is_prefix};
+ghost use Rattle.std.specs.Prelude.{◌≡◌, ◌++◌, ◌&&◌, ◌||◌, not, true, IfOk, IfSome, OnOk};
+ghost use Rattle.std.specs.Option.{option_map};
+ghost use Rattle.dns_data.specs.Name.{is_among, is_prefix};
+ghost use Rattle.net_model.specs.Nearest.{is_top};
 ghost use Rattle.net_model.specs.declared.fault.Fault.{Fault as FaultValue};
-ghost use Rattle.zone_lookup.specs.CutFlags.{faults_by, flags_of, glue_alone, is_quiet, lacks_address};
+ghost use Rattle.zone_lookup.specs.CutFlags.{faults_by, flags_by, flags_of, glue_alone, is_quiet};
 ghost use Rattle.zone_lookup.specs.LentCut.{cut_of};
 ghost use Rattle.zone_lookup.specs.ReferralFaults.{if_shown};
+ghost use Rattle.zone_lookup.specs.Sound.{wants_glue};
 
 use crate::hosts::Hosts;
 use crate::learnt_sets::LearntSets;
 use crate::lent_cut::LentCut;
-use crate::sides::{addresses_differ, zones_differ};
-use crate::sound::{depends_on_itself, wants_glue};
-use crate::walker::Walker;
-use dns_data::{List, NoMemory};
-use net_model::{Cut, Fault};
+use crate::sides::{addresses_differ, has_glue, zones_differ};
+use dns_data::{List, Name, NoMemory};
+use net_model::{Cut, Fault, is_among};
 use std::alloc::Global;
+use zone_tree::Tree;
 
 /// What a referral to a name server shows, whatever comes behind it and whatever is asked: which of the faults of its zone
 /// cut; and whether the configured name server's address isn't known while the servers of the least set are followed.
@@ -41,7 +43,11 @@ impl CutFlags {
         ensures { IfOk result (λ flags. flags ≡ flags_of hosts.now sets.now (cut_of cut.entry)) }
     {
         match hosts.host(cut.ns) {
-            Some(_) => CutFlags::of_both(alloc, hosts, sets, cut),
+            Some(host) => {
+                let above = hosts.held_zone(cut.server, cut.zone);
+                let below = host.zone_with_origin(cut.cut);
+                CutFlags::of_sides(alloc, hosts, sets, above, below, cut.cut, cut.ns)
+            }
             None => Ok(CutFlags::of_glue(wants_glue(hosts, cut))),
         }
     }
@@ -59,23 +65,31 @@ impl CutFlags {
         }
     }
 
-    /// What a referral shows, by the zones at both sides of it and what is learnt.
-    pub(crate) fn of_both(
+    /// What a referral to a configured name server shows, by the zones at both sides of it and what is learnt: by the one
+    /// that refers, and by the name server's own with the zone cut as its origin.
+    pub(crate) fn of_sides(
         alloc: Global,
         hosts: &Hosts<'_>,
         sets: &LearntSets,
-        cut: LentCut<'_>,
+        above: Option<&Tree<'_>>,
+        below: Option<&Tree<'_>>,
+        cut: &Name,
+        ns: &Name,
     ) -> Result<CutFlags, NoMemory>
-        requires { is_prefix cut.zone.now cut.cut.now ≡ true }
-        ensures { IfOk result (λ flags. flags ≡ flags_of hosts.now sets.now (cut_of cut.entry)) }
+        requires above { IfSome above (λ tree. is_prefix tree.now.zone.origin cut.now ≡ true) }
+        requires below { IfSome below (λ tree. is_prefix tree.now.zone.origin cut.now ≡ true) }
+        ensures { IfOk result (λ flags. flags ≡ flags_by hosts.now sets.now true
+            (option_map (λ tree. tree.now.zone) above.entry) (option_map (λ tree. tree.now.zone) below.entry) cut.now ns.now) }
     {
-        let glue_differs = addresses_differ(alloc, hosts, cut)?;
+        let glued = has_glue(above, cut, ns);
+        let known = is_known(hosts, sets, glued, ns);
+        let glue_differs = addresses_differ(alloc, above, below, cut, ns)?;
         Ok(CutFlags {
-            differs: zones_differ(hosts, cut),
-            no_glue: wants_glue(hosts, cut),
+            differs: zones_differ(above, below, cut),
+            no_glue: is_without(glued, cut, ns),
             glue_differs,
-            cyclic: depends_on_itself(hosts, sets, cut),
-            no_address: lacks_address(hosts, sets, cut),
+            cyclic: is_cyclic(known, sets, ns),
+            no_address: !known,
         })
     }
 
@@ -102,12 +116,33 @@ impl CutFlags {
     }
 }
 
-/// Whether the configured name server's address isn't known while the servers of the least set are followed.
-fn lacks_address(hosts: &Hosts<'_>, sets: &LearntSets, cut: LentCut<'_>) -> bool
-    requires { is_prefix cut.zone.now cut.cut.now ≡ true }
-    ensures { result ≡ lacks_address hosts.now sets.now (cut_of cut.entry) }
+/// Whether the address of a name server is known: by glue, which it may have, as a top server, or as one of the least set.
+fn is_known(hosts: &Hosts<'_>, sets: &LearntSets, glued: bool, ns: &Name) -> bool
+    ensures { result ≡ (is_top hosts.now ns.now || glued || is_among sets.now.least ns.now) }
 {
-    hosts.host(cut.ns).is_some() && !Walker::following_least(hosts, 0, sets).may_follow(cut)
+    is_among(hosts.config().tops(), ns) || glued || sets.has_least(ns)
+}
+
+/// Whether the name server, which may have glue, is at or below the cut and has none.
+fn is_without(glued: bool, cut: &Name, ns: &Name) -> bool
+    ensures { result ≡ (is_prefix cut.now ns.now && not glued) }
+{
+    cut.is_prefix_of(ns) && !glued
+}
+
+/// Whether the address of a name server, which may be known, isn't known and is learnt all the same if each is followed.
+fn is_cyclic(known: bool, sets: &LearntSets, ns: &Name) -> bool
+    ensures { result ≡ (not known && is_among sets.now.greatest ns.now) }
+{
+    !known && sets.has_greatest(ns)
+}
+
+/// Whether the name server is at or below the cut and has no glue.
+fn wants_glue(hosts: &Hosts<'_>, cut: LentCut<'_>) -> bool
+    requires { is_prefix cut.zone.now cut.cut.now ≡ true }
+    ensures { result ≡ wants_glue hosts.now (cut_of cut.entry) }
+{
+    cut.cut.is_prefix_of(cut.ns) && !hosts.has_glue(cut)
 }
 
 /// Puts the fault of this kind at a zone cut behind the others, where it is shown.

@@ -81,7 +81,7 @@ pub(crate) fn lacks_glue(tree: &Tree<'_>, cut: NodeId, ns: &Name) -> bool
 }
 
 /// Whether the name, which is at or below the origin, owns an address record.
-fn has_address(tree: &Tree<'_>, name: &Name) -> bool
+pub(crate) fn has_address(tree: &Tree<'_>, name: &Name) -> bool
     requires { is_prefix tree.now.zone.origin name.now ≡ true }
     ensures { result ≡ has_address tree.now.zone name.now }
 {

@@ -1,12 +1,14 @@
 //! Servers with the trees of their zones.
 
-ghost use Rattle.std.specs.Prelude.{◌≡◌, true, IfOk, IfSome};
+ghost use Rattle.std.specs.Prelude.{◌≡◌, ◌∷◌, [], true, IfOk, IfSome, OnOk};
 ghost use Rattle.std.specs.Option.{option_map};
 ghost use Rattle.dns_data.specs.Name.{is_prefix};
 ghost use Rattle.net_model.specs.Nearest.{server_named, zone_with_origin, held_zone, nearest, nearest_of};
-ghost use Rattle.zone_lookup.specs.Hosts.{AreHostsOf, AreTreesOf};
+ghost use Rattle.zone_lookup.specs.Firsts.{ArePut};
+ghost use Rattle.zone_lookup.specs.Hosts.{AreHostsOf, AreTreesOf, HaveZonesOf};
 
 use crate::firsts::{MadeOf, firsts_in_order};
+use crate::made_trees::MadeTrees;
 use crate::named::{Named, item_named, item_near, near_of, nearest_item};
 use dns_data::{Labels, Name, NoMemory};
 use net_model::{Config, Server, Zone};
@@ -19,6 +21,7 @@ use zone_tree::Tree;
 pub struct Hosts<'a> {
     config: &'a Config,
     hosts: Vec<Host<'a>>,
+    trees: Vec<Tree<'a>>,
 }
 
 impl<'a> Model for Hosts<'a> {
@@ -29,7 +32,9 @@ impl<'a> Model for Hosts<'a> {
 
     ghost view = { λ hosts. hosts.config.now };
 
-    ghost invariant = { λ hosts. AreHostsOf hosts.config.now.servers hosts.hosts.items };
+    ghost use Rattle.zone_lookup.specs.Hosts.{HaveZonesOf};
+
+    ghost invariant = { λ hosts. AreHostsOf hosts.config.now.servers hosts.hosts.items × HaveZonesOf hosts.config.now hosts.trees.items };
 }
 
 impl<'a> Hosts<'a> {
@@ -37,8 +42,14 @@ impl<'a> Hosts<'a> {
     pub fn build(alloc: Global, config: &'a Config) -> Result<Hosts<'a>, NoMemory>
         ensures { IfOk result (λ hosts. hosts ≡ config.now) }
     {
-        let hosts = firsts_in_order(alloc, config.servers())?;
-        Ok(Hosts { config, hosts })
+        let mut trees = MadeTrees::new(alloc);
+        let hosts = firsts_in_order(alloc, config.servers(), &mut trees)?;
+        let trees = trees.in_order()?;
+        Ok(Hosts {
+            config,
+            hosts,
+            trees,
+        })
     }
 
     /// The configuration.
@@ -53,6 +64,14 @@ impl<'a> Hosts<'a> {
         ensures { AreHostsOf self.now.servers result.now }
     {
         self.hosts.as_slice()
+    }
+
+    /// The trees of all servers' zones, in the order of their origins. Where several zones are equal there need not be more
+    /// than one tree of them.
+    pub fn trees(&self) -> &[Tree<'a>]
+        ensures { HaveZonesOf self.now result.now }
+    {
+        self.trees.as_slice()
     }
 
     /// The configured server of this name.
@@ -142,10 +161,15 @@ impl<'a> Model for Host<'a> {
 
 impl<'a> Host<'a> {
     /// The server with the trees of its zones.
-    pub(crate) fn build(alloc: Global, server: &'a Server) -> Result<Host<'a>, NoMemory>
-        ensures { IfOk result (λ host. host ≡ server.now) }
+    fn build(
+        alloc: Global,
+        server: &'a Server,
+        made: &mut MadeTrees<'a>,
+    ) -> Result<Host<'a>, NoMemory>
+        ensures host { IfOk result (λ host. host ≡ server.now) }
+        ensures trees { OnOk result (ArePut server.now.zones made.old made.new) }
     {
-        let trees = firsts_in_order(alloc, server.zones.items())?;
+        let trees = firsts_in_order(alloc, server.zones.items(), made)?;
         Ok(Host { server, trees })
     }
 
@@ -210,16 +234,28 @@ impl<'a> Host<'a> {
 impl<'a> MadeOf<'a, Server> for Host<'a> {
     ghost tell = { λ host. host };
 
-    fn make(alloc: Global, server: &'a Server) -> Result<Host<'a>, NoMemory> {
-        Host::build(alloc, server)
+    ghost zones_of = { λ server. server.zones };
+
+    fn make(
+        alloc: Global,
+        server: &'a Server,
+        trees: &mut MadeTrees<'a>,
+    ) -> Result<Host<'a>, NoMemory> {
+        Host::build(alloc, server, trees)
     }
 }
 
 impl<'a> MadeOf<'a, Zone> for Tree<'a> {
     ghost tell = { λ tree. tree.zone };
 
-    fn make(alloc: Global, zone: &'a Zone) -> Result<Tree<'a>, NoMemory> {
-        Tree::build(alloc, zone)
+    ghost zones_of = { λ zone. zone ∷ [] };
+
+    fn make(
+        alloc: Global,
+        zone: &'a Zone,
+        trees: &mut MadeTrees<'a>,
+    ) -> Result<Tree<'a>, NoMemory> {
+        trees.tree_of(alloc, zone)
     }
 }
 

@@ -2,54 +2,70 @@
 //! origin.
 
 ghost use lib.Pointwise.{pointwise};
-ghost use Rattle.std.specs.Prelude.{◌≡◌, true, map, IfOk};
+ghost use Rattle.std.specs.Prelude.{◌≡◌, ◌&&◌, true, map, IfOk, IfSome};
+ghost use Rattle.std.specs.Option.{option_map};
 ghost use Rattle.dns_data.specs.Name.{is_prefix};
 ghost use Rattle.dns_data.specs.Rdata.{data_eq};
 ghost use Rattle.net_model.specs.Zone.{addresses, ns_names};
-ghost use Rattle.zone_lookup.specs.LentCut.{cut_of};
-ghost use Rattle.zone_lookup.specs.Sides.{addresses_differ, both_differ, names_eq, zones_differ};
+ghost use Rattle.zone_lookup.specs.CutFlags.{glue_by};
+ghost use Rattle.zone_lookup.specs.Sides.{both_differ, glue_of_sides, names_eq, sides_differ};
 
-use crate::hosts::Hosts;
-use crate::lent_cut::LentCut;
+use crate::follow::has_address;
 use dns_data::{List, Name, NoMemory, Rdata};
 use std::alloc::Global;
 use zone_tree::Tree;
 
-/// Whether the delegated zone lists other name servers than the referring one.
-pub(crate) fn zones_differ(hosts: &Hosts<'_>, cut: LentCut<'_>) -> bool
-    requires { is_prefix cut.zone.now cut.cut.now ≡ true }
-    ensures { result ≡ zones_differ hosts.now (cut_of cut.entry) }
+/// Whether both zones are there, the one that refers and the delegated one, and list other name servers at a zone cut.
+pub(crate) fn zones_differ(above: Option<&Tree<'_>>, below: Option<&Tree<'_>>, cut: &Name) -> bool
+    requires above { IfSome above (λ tree. is_prefix tree.now.zone.origin cut.now ≡ true) }
+    requires below { IfSome below (λ tree. is_prefix tree.now.zone.origin cut.now ≡ true) }
+    ensures { result ≡ sides_differ cut.now (option_map (λ tree. tree.now.zone) above.entry) (option_map (λ tree. tree.now.zone) below.entry) }
 {
-    let Some(above) = hosts.held_zone(cut.server, cut.zone) else {
+    let Some(above) = above else {
         return false;
     };
-    let Some(below) = hosts.held_zone(cut.ns, cut.cut) else {
+    let Some(below) = below else {
         return false;
     };
-    !same_names(servers_at(above, cut.cut), servers_at(below, cut.cut))
+    !same_names(servers_at(above, cut), servers_at(below, cut))
 }
 
-/// Whether the name server is at or below the cut, and both zones hold addresses of it, and not the same ones.
+/// Whether the name server is at or below the cut, and both zones are there and hold addresses of it, but not the same.
 pub(crate) fn addresses_differ(
     alloc: Global,
-    hosts: &Hosts<'_>,
-    cut: LentCut<'_>,
+    above: Option<&Tree<'_>>,
+    below: Option<&Tree<'_>>,
+    cut: &Name,
+    ns: &Name,
 ) -> Result<bool, NoMemory>
-    requires { is_prefix cut.zone.now cut.cut.now ≡ true }
-    ensures { IfOk result (λ differ. differ ≡ addresses_differ hosts.now (cut_of cut.entry)) }
+    requires above { IfSome above (λ tree. is_prefix tree.now.zone.origin cut.now ≡ true) }
+    requires below { IfSome below (λ tree. is_prefix tree.now.zone.origin cut.now ≡ true) }
+    ensures { IfOk result (λ differ. differ ≡ (is_prefix cut.now ns.now
+        && glue_of_sides ns.now (option_map (λ tree. tree.now.zone) above.entry) (option_map (λ tree. tree.now.zone) below.entry))) }
 {
-    if !cut.cut.is_prefix_of(cut.ns) {
+    if !cut.is_prefix_of(ns) {
         return Ok(false);
     }
-    let Some(above) = hosts.held_zone(cut.server, cut.zone) else {
+    let Some(above) = above else {
         return Ok(false);
     };
-    let Some(below) = hosts.held_zone(cut.ns, cut.cut) else {
+    let Some(below) = below else {
         return Ok(false);
     };
-    let glue = addresses_at(alloc, above, cut.ns)?;
-    let own = addresses_at(alloc, below, cut.ns)?;
+    let glue = addresses_at(alloc, above, ns)?;
+    let own = addresses_at(alloc, below, ns)?;
     Ok(both_differ(glue.items(), own.items()))
+}
+
+/// Whether the name server is at or below the cut, and the zone that refers is there and holds an address of it.
+pub(crate) fn has_glue(above: Option<&Tree<'_>>, cut: &Name, ns: &Name) -> bool
+    requires { IfSome above (λ tree. is_prefix tree.now.zone.origin cut.now ≡ true) }
+    ensures { result ≡ glue_by (option_map (λ tree. tree.now.zone) above.entry) cut.now ns.now }
+{
+    match above {
+        Some(tree) if cut.is_prefix_of(ns) => has_address(tree, ns),
+        _ => false,
+    }
 }
 
 /// The names of the name servers that a name at or below the origin owns, in the order of names.

@@ -172,8 +172,8 @@ module _ (origin : Labels) where
         let (run, there, within) = from_flat_map records_in runs rr among in
         subst (Contains (map owner_of runs)) (sym (of_run run.first.now run.rest.now (keyed run there).one_owner rr within) ∙ is) (map_has owner_of runs run there)
 
--- the owners of runs, in another order, are those of the zone's records at or below the origin, if the runs have the owners of
--- these records
+-- the owners of runs, in another order, are those of the zone's records at or below the origin, if the runs have the owners
+-- of these records
 pub owners_kept : (zone : Zone) (old new : List KeyedRun) → IsPermutation old new → (name : Labels)
     → (Contains (map owner_of old) name ↔ Contains (map (λ (rr : Rr). rr.owner) (filter (λ (rr : Rr). is_prefix zone.origin rr.owner) zone.rrs)) name)
     → Contains (map owner_of new) name ↔ (Contains (map (λ (rr : Rr). rr.owner) zone.rrs) name × (is_prefix zone.origin name ≡ true))

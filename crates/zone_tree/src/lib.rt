@@ -12,14 +12,14 @@
 //! beside its several data and eight octets for each name server; all stand in a few lists of the whole tree. The name
 //! servers of a name, and its several targets of one type, are put in their places one by one where it owns up to 16
 //! records; no texts are made of targets whose last labels tell their order. Other data of several records are put in order
-//! by texts that are made of each once. For each name it keeps two numbers of eight octets more: the place of the first name
-//! from the origin down to it that decides at those below it, and a key, the first eight octets of its label right below the
-//! origin. A name is found among the existing ones in as many steps as the logarithm of their number: each compares two
-//! keys, and names only where the keys are one, as they are of names below one label. Owners are compared so too when the
-//! runs are sorted. A name is found in a few comparisons of names where it stands right behind a node's; one tells that no
-//! name stands below a node's, and mostly whether the asterisk label does. What decides at a name takes one search, however
-//! many labels the name has. A closest encloser or a source of synthesis takes one, or a second one where the name before
-//! in order isn't the encloser itself.
+//! by texts that are made of each once. For each name it keeps two numbers of eight octets more: the place of the first
+//! name from the origin down to it that decides at those below it, and a key, the first eight octets of its label right
+//! below the origin. A name is found among the existing ones in as many steps as the logarithm of their number: each
+//! compares two keys, and names only where the keys are one, as they are of names below one label. Owners are compared so
+//! too when the runs are sorted. A name is found in a few comparisons of names where it stands right behind a node's; one
+//! tells that no name stands below a node's, and mostly whether the asterisk label does. What decides at a name takes one
+//! search, however many labels the name has. A closest encloser or a source of synthesis takes one, or a second one where
+//! the name before in order isn't the encloser itself. A tree once more takes no memory of its own, and no time.
 #![tactic(auto)]
 
 mod answers;

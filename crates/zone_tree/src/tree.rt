@@ -29,12 +29,19 @@ use name_table::NameTable;
 use net_model::Zone;
 use std::alloc::Global;
 use std::marker::Model;
+use std::sync::Arc;
 
 /// The existing names of a zone, in order, each with what it owns and with the first name from the origin down to it that
 /// decides at those below it (RFC 1034 section 4.2, RFC 4592 section 2.2.2).
 #[derive(Debug, Drop)]
 pub struct Tree<'a> {
     zone: &'a Zone,
+    nodes: Arc<Nodes<'a>>,
+}
+
+/// What the nodes of a tree stand for. Several trees of one zone have it in one place of memory.
+#[derive(Debug, Drop)]
+struct Nodes<'a> {
     names: NameTable,
     records: OwnedData<'a>,
     first_deciders: Vec<NodeId>,
@@ -45,12 +52,15 @@ impl<'a> Model for Tree<'a> {
 
     ghost Value = { ZoneTree };
 
-    ghost view = { λ tree. record { zone = tree.zone.now; names = tree.names } };
+    ghost use Rattle.std.specs.Arc.{arc_value};
+
+    ghost view = { λ tree. record { zone = tree.zone.now; names = (arc_value tree.nodes).names } };
 
     ghost use Rattle.zone_tree.specs.FirstDecider.{AreFirstDeciders};
     ghost use Rattle.zone_tree.specs.Records.{IsTree};
 
-    ghost invariant = { λ tree. IsTree tree.zone.now tree.names tree.records × AreFirstDeciders tree.zone.now tree.names tree.first_deciders.items };
+    ghost invariant = { λ tree. IsTree tree.zone.now (arc_value tree.nodes).names (arc_value tree.nodes).records
+        × AreFirstDeciders tree.zone.now (arc_value tree.nodes).names (arc_value tree.nodes).first_deciders.items };
 }
 
 impl<'a> Tree<'a> {
@@ -64,11 +74,25 @@ impl<'a> Tree<'a> {
         let records = records_by_name(alloc, names.as_slice(), runs)?;
         let first_deciders = first_deciders(alloc, zone, names.as_slice(), &records)?;
         let table = NameTable::of(alloc, names)?;
+        let nodes = Arc::new(
+            alloc,
+            Nodes {
+                names: table,
+                records,
+                first_deciders,
+            },
+        )?;
+        Ok(Tree { zone, nodes })
+    }
+
+    /// The same tree once more. What it keeps of its zone stands in one place of memory with this one.
+    pub fn again(&self) -> Result<Tree<'a>, NoMemory>
+        ensures { IfOk result (λ tree. tree ≡ self.now) }
+    {
+        let nodes = Arc::try_clone(&self.nodes)?;
         Ok(Tree {
-            zone,
-            names: table,
-            records,
-            first_deciders,
+            zone: self.zone,
+            nodes,
         })
     }
 
@@ -85,7 +109,7 @@ impl<'a> Tree<'a> {
     pub fn names(&self) -> &[Name]
         ensures { result.now ≡ self.now.names }
     {
-        self.names.names()
+        self.nodes.names.names()
     }
 
     /// The node of the origin.
@@ -94,7 +118,7 @@ impl<'a> Tree<'a> {
         ensures name { name_of self.now result ≡ self.now.zone.origin }
     {
         // The names are read, so that it is known here that there is one.
-        let _ = self.names.names();
+        let _ = self.nodes.names.names();
         NodeId::at(0)
     }
 
@@ -103,7 +127,7 @@ impl<'a> Tree<'a> {
         requires { IsNode self.now node }
         ensures { result.now ≡ name_of self.now node }
     {
-        &self.names.names()[node.place()]
+        &self.nodes.names.names()[node.place()]
     }
 
     /// The node of a name, or `None` where the name doesn't exist in the zone.
@@ -120,7 +144,7 @@ impl<'a> Tree<'a> {
         ensures some { IfSome result (λ node. (node ≡ place) × IsNode self.now node) }
         ensures none { IfNone result (length self.now.names ≤ place) }
     {
-        if place < self.names.names().len() {
+        if place < self.nodes.names.names().len() {
             Some(NodeId::at(place))
         } else {
             None
@@ -133,7 +157,7 @@ impl<'a> Tree<'a> {
         ensures name { IfSome result (λ node. name_of self.now node ≡ labels.now) }
         ensures none { IsNone result ↔ (exists_in self.now.zone labels.now ≡ false) }
     {
-        let place = self.names.place_of(labels)?;
+        let place = self.nodes.names.place_of(labels)?;
         Some(NodeId::at(place))
     }
 
@@ -145,7 +169,7 @@ impl<'a> Tree<'a> {
         ensures name { IfSome result (λ near. name_of self.now near ≡ labels.now) }
         ensures none { IsNone result ↔ (exists_in self.now.zone labels.now ≡ false) }
     {
-        match self.names.place_behind(node.place(), labels) {
+        match self.nodes.names.place_behind(node.place(), labels) {
             Some(place) => Some(NodeId::at(place)),
             None => self.node_of(labels),
         }
@@ -158,8 +182,9 @@ impl<'a> Tree<'a> {
         ensures { IsPreceding self.now name.now result }
     {
         let labels = name.labels();
-        let place = self.names.last_up_to(&labels);
-        let names = self.names.names();
+        let table = &self.nodes.names;
+        let place = table.last_up_to(&labels);
+        let names = table.names();
         Preceding {
             node: NodeId::at(place),
             shared: names[place].labels().common_len(&labels) as usize,
@@ -173,7 +198,7 @@ impl<'a> Tree<'a> {
         ensures node { IsNode self.now result }
         ensures name { name_of self.now result ≡ first_decider self.now.zone (name_of self.now node) }
     {
-        self.first_deciders[node.place()]
+        self.nodes.first_deciders[node.place()]
     }
 
     /// The node of the name with this label directly below a node's name, or `None` where that name doesn't exist in
@@ -195,7 +220,7 @@ impl<'a> Tree<'a> {
         ensures name { IfSome result (λ child. name_of self.now child ≡ name_of self.now node ++ label.now ∷ []) }
         ensures none { IsNone result ↔ (exists_in self.now.zone (name_of self.now node ++ label.now ∷ []) ≡ false) }
     {
-        let place = self.names.child(node.place(), label)?;
+        let place = self.nodes.names.child(node.place(), label)?;
         Some(NodeId::at(place))
     }
 
@@ -256,6 +281,6 @@ impl<'a> Tree<'a> {
         requires { IsNode self.now node }
         ensures { TellsData (data_of self.now.zone.rrs (name_of self.now node)) result }
     {
-        self.records.at(node.place())
+        self.nodes.records.at(node.place())
     }
 }

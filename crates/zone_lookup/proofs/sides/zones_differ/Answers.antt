@@ -1,17 +1,12 @@
-use Rattle.std.proofs.Common.{sym, ap, ◌∙◌}
-use Rattle.dns_data.specs.Name.{Labels, is_prefix}
-use Rattle.dns_data.proofs.NameFronts.{begins_itself}
-use Rattle.zone_lookup.proofs.Glue.{held_origin}
+use Rattle.std.proofs.Common.{◌≡◌, true, Option, Bor, IfSome, subst}
+use Rattle.dns_data.specs.Name.{is_prefix}
+use Rattle.zone_tree.specs.Tree.{ZoneTree}
 use Rattle.zone_lookup.proofs.sides.zones_differ.Goals as goal
 
 pub servers_at-requires : goal.servers_at-requires
 servers_at-requires c =
-    ap (λ (origin : Labels). is_prefix origin c.args.cut.cut.now)
-    (held_origin c.args.hosts.now c.args.cut.server.now c.args.cut.zone.now c.in-Some.above.now.zone (sym c.in-Some.ensures))
-    ∙ c.requires
+    subst (λ (tree : Option (Bor ZoneTree)). IfSome tree (λ one. is_prefix one.now.zone.origin c.args.cut.now ≡ true)) c.in-Some.is c.requires.above
 
 pub servers_at-requires-2 : goal.servers_at-requires-2
 servers_at-requires-2 c =
-    ap (λ (origin : Labels). is_prefix origin c.args.cut.cut.now)
-    (held_origin c.args.hosts.now c.args.cut.ns.now c.args.cut.cut.now c.in-Some-held_zone.below.now.zone (sym c.in-Some-held_zone.ensures))
-    ∙ begins_itself c.args.cut.cut.now
+    subst (λ (tree : Option (Bor ZoneTree)). IfSome tree (λ one. is_prefix one.now.zone.origin c.args.cut.now ≡ true)) c.in-Some-below.is c.requires.below

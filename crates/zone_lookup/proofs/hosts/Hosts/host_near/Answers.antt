@@ -11,5 +11,5 @@ returns c =
     c.item_near.ensures
     ∙ ap (find test) c.as_slice.ensures.value
     ∙ sym (option_map_id (find test c.self.inside.hosts.items))
-    ∙ c.self.invariant.firsts c.args.name.now
+    ∙ c.self.invariant.0.firsts c.args.name.now
     ∙ ap (λ (config : Config). find test config.servers) c.self.view_is

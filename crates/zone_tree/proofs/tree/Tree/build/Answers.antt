@@ -8,6 +8,7 @@ use Rattle.zone_tree.specs.Names.{AreExisting}
 use Rattle.zone_tree.specs.Owners.{AreByOwner, data_of_runs}
 use Rattle.zone_tree.specs.Records.{OwnedRecords, TellsData, IsTree}
 use Rattle.zone_tree.specs.declared.runs.KeyedRun.{KeyedRun}
+use Rattle.zone_tree.specs.declared.tree.Nodes.{Nodes}
 use Rattle.zone_tree.proofs.Existing.{existing_within, existing_table, owners_among}
 use Rattle.zone_tree.proofs.tree.Tree.build.Goals as goal
 
@@ -48,7 +49,8 @@ of-requires c = existing_table c.args.zone.now c.in_ok-names.names.items c.in_ok
 pub invariant_of-result : goal.invariant_of-result
 invariant_of-result c =
     let zone = c.args.zone.now in
-    let are : AreByOwner zone c.as_slice-runs.result.now = subst (AreByOwner zone) (sym c.as_slice-runs.ensures.value) c.in_ok-sorted.ensures in (
+    let are : AreByOwner zone c.as_slice-runs.result.now = subst (AreByOwner zone) (sym c.as_slice-runs.ensures.value) c.in_ok-sorted.ensures in
+    subst (λ (nodes : Nodes). IsTree zone nodes.names nodes.records × AreFirstDeciders zone nodes.names nodes.first_deciders.items) (sym c.in_ok-nodes.ensures.ok) (
       subst (λ (names : List Labels). IsTree zone names c.in_ok-records.records) (sym c.in_ok-table.ensures)
           (told zone c.as_slice-runs.result.now c.in_ok-names.names.items c.as_slice.result.now c.in_ok-records.records
           c.as_slice.ensures.value are c.in_ok-names.ensures c.in_ok-records.ensures.many c.in_ok-records.ensures.each),
