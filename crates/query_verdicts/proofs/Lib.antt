@@ -20,6 +20,7 @@ pub mod KeptFirsts
 pub mod KnownAlike
 pub mod NameVerdicts
 pub mod OnePassed
+pub mod OnlyWalks
 pub mod OneVerdict
 pub mod OpenGraphs
 pub mod OpenNodes

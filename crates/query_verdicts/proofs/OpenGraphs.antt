@@ -7,7 +7,7 @@ use Rattle.std.specs.Option.{option_map_or}
 use Rattle.dns_data.specs.Name.{Labels}
 use Rattle.dns_data.specs.TypeSet.{has_bit}
 use Rattle.dns_data.specs.declared.rr_type.RrType.{RrType}
-use Rattle.dns_data.proofs.Membership.{first_or_later, from_map, map_has, none_in_nil}
+use Rattle.dns_data.proofs.Membership.{first_or_later, from_map, item_there, map_has, none_in_nil}
 use Rattle.dns_data.proofs.NameFronts.{is_prefix_told, octets_below, tail_octets}
 use Rattle.dns_data.proofs.Searches.{any_has, found_there}
 use Rattle.net_model.specs.declared.config.Config.{Config}
@@ -43,7 +43,7 @@ use Rattle.interp_graph.proofs.NextRestricted.{next_restricted}
 use Rattle.straight_walks.specs.Straight.{NoOriginBelow}
 use Rattle.straight_walks.proofs.BelowOrigins.{same_nearest}
 use Rattle.walk_laws.proofs.WalksAlike.OpenBack.{open_back}
-use Rattle.walk_laws.proofs.WalksAlike.OpenWalks.{AllOpen, OpensAt, item_there, open_walks}
+use Rattle.walk_laws.proofs.WalksAlike.OpenWalks.{AllOpen, OpensAt, open_walks}
 use Rattle.query_verdicts.specs.AlikeBelow.{HasNoneBelow, IsOpenGraph, IsOpenState}
 use Rattle.query_verdicts.specs.Verdict.{PassesStates}
 use Rattle.query_verdicts.proofs.QuietBelow.{holds_of_all, holds_with_tail}

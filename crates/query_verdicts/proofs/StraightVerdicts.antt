@@ -1,9 +1,11 @@
 -- What the walks of a query end in that go straight, and its verdict: the faults that the ends tell.
-use Rattle.std.proofs.Common.{◌≡◌, ◌==◌, ℕ, true, List, [], ◌∷◌, ◌++◌, length, Option, Some, None, Result, Ok, Err, refl, ap, subst, arith, eqb-true}
-use Rattle.std.specs.Prelude.{◌↔◌, IfOk, IfSome}
+use Rattle.std.proofs.Common.{◌≡◌, ℕ, true, List, [], ◌++◌, Option, Some, None, Result, Ok, Err, sym, subst, arith}
+use Rattle.std.specs.Prelude.{◌↔◌, IfOk, IfSome, Contains}
 use Rattle.dns_data.specs.Name.{Labels}
 use Rattle.dns_data.specs.declared.rr_type.RrType.{RrType}
 use Rattle.dns_data.proofs.Membership.{none_in_nil}
+use Rattle.dns_data.specs.declared.rr_type.RrType.TheVariants as types
+use Rattle.graph_form.specs.Branches.{with_type}
 use Rattle.graph_form.specs.Verdict.{AreFirstTypes}
 use Rattle.net_model.specs.declared.deps.Deps.{Deps}
 use Rattle.net_model.specs.declared.config.Config.{Config}
@@ -15,11 +17,10 @@ use Rattle.net_model.specs.Tree.{HasMoreThan, IsReached}
 use Rattle.net_model.specs.Walk.{IsBoundedWith}
 use Rattle.net_model.specs.declared.walk.Leaf.{Leaf}
 use Rattle.straight_walks.specs.Ends.{IsOutcomeOf}
-use Rattle.straight_walks.specs.Faulty.{ShowsThese, faults_at}
+use Rattle.straight_walks.specs.Faulty.{ShowsThese}
 use Rattle.straight_walks.specs.Straight.{NoOriginBetween, faults_by_ends}
 use Rattle.straight_walks.specs.declared.ends.StraightEnds.{StraightEnds}
-use Rattle.straight_walks.specs.declared.faulty.Faulty.{Faulty}
-use Rattle.straight_walks.proofs.ShowsThese.{first_shown}
+use Rattle.straight_walks.proofs.ShowsThese.{first_shown, told_with_first}
 use Rattle.walk_laws.specs.Outcome.{HasOutcome}
 use Rattle.walk_laws.proofs.GivenSets.{lists_show}
 use Rattle.query_verdicts.specs.Queries.{AreSets, AreStraightEnds, IsJudgedBy}
@@ -38,15 +39,11 @@ none_first =
       covers = λ seen has. absurd (none_in_nil seen has);
     }
 
-none_there : (faulty : List Faulty) → (length faulty == 0) ≡ true → faulty ≡ []
-none_there [] e = refl
-none_there (one ∷ rest) e = let no = eqb-true (length (one ∷ rest)) 0 e in absurd (omega (arith, no))
-
--- a query whose ends tell of no referral that shows a fault shows none
-pub judged_quiet : (config : Config) (rewrites states : ℕ) (query name : Labels) (ends : StraightEnds) → (length ends.faulty.items == 0) ≡ true
+-- a query whose ends tell no fault shows none
+pub judged_quiet : (config : Config) (rewrites states : ℕ) (query name : Labels) (ends : StraightEnds) → faults_by_ends query ends types.A ≡ []
     → IsJudgedBy config rewrites states (faults_by_ends query ends) name → IsClassVerdict config rewrites states name (Faults [])
 judged_quiet config rewrites states query name ends none told =
-    subst (λ (all : List Fault). IsJudgedBy config rewrites states all name) (ap (faults_at query) (none_there ends.faulty.items none)) told [] none_first
+    told [] (subst (λ (all : List Fault). AreFirstTypes (with_type types.A all) []) (sym none) none_first)
 
 -- ---- the verdict of a query with straight ends
 
@@ -55,15 +52,16 @@ abbrev pub IsFew : Config → ℕ → ℕ → Labels → Type 0
 IsFew config rewrites states query = HasMoreThan (IsReached config rewrites query) states → ⊥
 
 -- the query shows these faults with the two sets of learnt addresses
-abbrev pub ShowsFaults : Config → ℕ → Deps → List Fault → Labels → Type 0
+abbrev pub ShowsFaults : Config → ℕ → Deps → (RrType → List Fault) → Labels → Type 0
 ShowsFaults config rewrites deps told query = ShowsThese (with_lists (following config rewrites deps.least) deps.least deps.greatest) query told
 
 module _ (config : Config) (rewrites states : ℕ) (query : Labels) (deps : Deps) (sets : AreSets config rewrites states deps) where
   -- so the verdict of such a query has the first of each
-  judged_for : (told : List Fault) (name : Labels) → IsFew config rewrites states name → ShowsFaults config rewrites deps told name → IsJudgedBy config rewrites states told name
-  judged_for told name few these shown firsts = (
+  judged_for : (told : RrType → List Fault) (name : Labels) → ((rtype : RrType) (fault : Fault) → Contains (told rtype) fault → Contains (told types.A) fault)
+      → IsFew config rewrites states name → ShowsFaults config rewrites deps told name → IsJudgedBy config rewrites states told name
+  judged_for told name with_first few these shown firsts = (
     few,
-    all_sought config rewrites states deps sets name shown (first_shown (with_sets (following config rewrites deps.least)) name told shown with_both firsts),
+    all_sought config rewrites states deps sets name shown (first_shown (with_sets (following config rewrites deps.least)) name told shown with_both with_first firsts),
   )
     where
       with_both : ShowsThese (with_sets (following config rewrites deps.least)) name told
@@ -94,8 +92,8 @@ module _ (config : Config) (rewrites states : ℕ) (query : Labels) (deps : Deps
         in_force = sets.least;
         bounded = bounded;
         outcomes = outcomes;
-        verdict = judged_for (faults_by_ends query ends) query few shown;
-        verdict_below = λ below name between. judged_for (faults_by_ends query ends) name (few_below below name between) (shown_below below name between);
-        verdict_unnamed = λ below tail is. judged_for (faults_by_ends query ends) (query ++ tail) (few_unnamed below tail is) (shown_unnamed below tail is);
+        verdict = judged_for (faults_by_ends query ends) query (told_with_first query ends) few shown;
+        verdict_below = λ below name between. judged_for (faults_by_ends query ends) name (told_with_first query ends) (few_below below name between) (shown_below below name between);
+        verdict_unnamed = λ below tail is. judged_for (faults_by_ends query ends) (query ++ tail) (told_with_first query ends) (few_unnamed below tail is) (shown_unnamed below tail is);
       }
   straight_ends (Err fault) few shown bounded outcomes few_below shown_below few_unnamed shown_unnamed = tt

@@ -11,6 +11,7 @@ pub mod Entries
 pub mod FiledVerdict
 pub mod Kept
 pub mod Learnt
+pub mod OnlyWalk
 pub mod Passed
 pub mod Queries
 pub mod Rows

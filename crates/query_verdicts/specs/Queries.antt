@@ -82,10 +82,11 @@ pub record IsLeastGraph (config : Config) (rewrites : ℕ) (query : Labels) (gra
   pub is_graph : IsGraphOf (following config rewrites followed) query graph
   pub exact : IsExactIn (following config rewrites followed) query graph
 
--- the verdict of a query that shows these faults, with all types alike: each once, with the first type
-abbrev pub IsJudgedBy : Config → ℕ → ℕ → List Fault → Labels → Type 0
+-- the verdict of a query that shows these faults with each type, and with no type one that it doesn't show with the first:
+-- each once, with the first type
+abbrev pub IsJudgedBy : Config → ℕ → ℕ → (RrType → List Fault) → Labels → Type 0
 IsJudgedBy config rewrites states faults query =
-    (shown : List Seen) → AreFirstTypes (with_type types.A faults) shown → IsClassVerdict config rewrites states query (Faults shown)
+    (shown : List Seen) → AreFirstTypes (with_type types.A (faults types.A)) shown → IsClassVerdict config rewrites states query (Faults shown)
 
 -- The walks of the query end so while the servers of the set in force are followed: it has these outcomes and no
 -- others, and no walk of it ends in a name of more than 255 octets (RFC 6672 section 2.2). Neither it nor the name of

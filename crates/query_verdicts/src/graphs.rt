@@ -1,6 +1,7 @@
 //! The graphs and the verdicts of the queries of a configuration.
 
 ghost use Rattle.std.specs.Prelude.{◌≡◌, true, IfOk, IfErr, IfSome, OnOk, IsErrOf, MatchOption};
+ghost use Rattle.query_verdicts.specs.OnlyWalk.{IsOnlyOfLeast};
 ghost use Rattle.query_verdicts.specs.Passed.{IsFirstServerPassed};
 ghost use Rattle.query_verdicts.specs.Queries.{AreSets, AreStraightEnds, IsLeastGraph, IsOwnClass, WalksLike, limited_to};
 ghost use Rattle.query_verdicts.specs.Verdict.{IsClassVerdict, PassesStates, SomeServerPasses};
@@ -8,18 +9,19 @@ ghost use Rattle.straight_walks.specs.Straight.{NoOriginBelow};
 
 use crate::alike::like_of;
 use crate::learnt::{Learnt, learnt_of};
+use crate::only_walk::only_walk;
 use crate::own_class::OwnClass;
 use crate::queries::{Queries, graph_of};
 use crate::verdict::ClassVerdict;
 use crate::verdicts::{graph_in_least, verdict_alone, verdict_with};
-use dns_data::{Name, NoMemory};
+use dns_data::{Name, NoMemory, RrType};
 use graph_form::Graph;
 use interp_graph::GraphFault;
-use net_model::Config;
+use net_model::{Config, Walk};
 use std::alloc::Global;
 use std::marker::Model;
 use straight_walks::{StraightEnds, straight_ends};
-use zone_lookup::{Hosts, LearntSets};
+use zone_lookup::{Hosts, LearntSets, Walker};
 
 /// The queries of a configuration, with what is learnt of it once: the trees of all zones, the two sets of learnt
 /// addresses and the regions of names. Contracts see the configuration and the limits of its queries.
@@ -88,6 +90,24 @@ impl<'a> QueryGraphs<'a> {
             Ok(learnt) => {
                 let limited = graph_in_least(&self.queries, learnt, graph)?;
                 Ok(Some(limited))
+            }
+            Err(_) => Ok(None),
+        }
+    }
+
+    /// The walk of a query with a type while the servers of the least set of learnt addresses are followed, where it is
+    /// seen without a graph that there is no other.
+    pub(crate) fn only_walk(&self, query: &Name, rtype: RrType) -> Result<Option<Walk>, NoMemory>
+        ensures { IfOk result (λ found. IfSome found (IsOnlyOfLeast self.now.config self.now.rewrites query.now rtype)) }
+    {
+        match &self.learnt {
+            Ok(learnt) => {
+                let walker = Walker::following_least(
+                    &self.queries.trees,
+                    self.queries.rewrites,
+                    &learnt.sets,
+                );
+                only_walk(self.queries.alloc, &walker, query, rtype)
             }
             Err(_) => Ok(None),
         }

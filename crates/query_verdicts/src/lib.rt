@@ -24,8 +24,10 @@
 //! no zone for it, and no zone's origin stands below it, no name below it is searched for at all. A graph is restricted
 //! to the least set of learnt addresses only where some configured server is neither in that set nor a top server. The
 //! class of a query under the configuration's own names is asked only where a graph was made and the subject tells other
-//! names apart. The report takes room for each fault, and not for each class that shows it. It makes one graph more for
-//! each class that is the first to show some fault, and finds the first walks of all these faults in it.
+//! names apart. The report takes room for each fault, and not for each class that shows it. Where one top server is asked
+//! and each state of the first class's representative leads to one thing alone, with the fault's type, the entry follows
+//! that walk, step by step. Else it makes one graph more for each class that is the first to show some fault, and finds the
+//! first walks of all these faults in it.
 //! Where the zones have many more names than redirected ones, `prepare` makes one graph more for each redirected name: that
 //! of a name right below it. Where the servers to which its walks come know nothing of names with its last label, all
 //! names below the redirected one, as long as they aren't too long, show what it shows, and no graph of them is made.
@@ -41,6 +43,7 @@ mod known_classes;
 pub mod laws;
 mod learnt;
 mod name_judge;
+mod only_walk;
 mod open_graph;
 mod own_class;
 mod passed;

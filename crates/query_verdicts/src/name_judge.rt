@@ -5,6 +5,7 @@ ghost use Rattle.dns_data.specs.Name.{Labels};
 ghost use Rattle.net_model.specs.Tails.{IsUnnamedTail};
 ghost use Rattle.net_model.specs.declared.class.Class.TheVariants.{Below};
 ghost use Rattle.net_model.specs.Reading.{ground_of};
+ghost use Rattle.query_verdicts.specs.OnlyWalk.{IsOnlyOfLeast};
 ghost use Rattle.query_verdicts.specs.Passed.{IsFirstServerPassed};
 ghost use Rattle.query_verdicts.specs.Queries.{AreStraightEnds, IsLeastGraph, IsJudgedBy, StandsFor, queries_of};
 ghost use Rattle.query_verdicts.specs.Subjects.{AreOfSubject, IsCovering, RepresentsBelow};
@@ -19,11 +20,11 @@ use crate::graphs::QueryGraphs;
 use crate::own_class::OwnClass;
 use crate::subject::{OnSubject, SubjectGround};
 use crate::verdict::{ClassVerdict, FiledVerdict, NameVerdict};
-use dns_data::{List, Name, NoMemory};
+use dns_data::{List, Name, NoMemory, RrType};
 use graph_form::Graph;
 use interp_graph::GraphFault;
 use label_graph::LabelGraph;
-use net_model::Class;
+use net_model::{Class, Walk};
 use query_classes::{LiveName, TreeName};
 use std::alloc::Global;
 use std::marker::{Model, PhantomData};
@@ -251,7 +252,7 @@ impl<'a, S: OnSubject> NameJudge<'a, S> {
                 if !ends.below {
                     return false;
                 }
-                if !ends.faulty.as_slice().is_empty() {
+                if !ends.tell_no_fault() {
                     return false;
                 }
                 self.graphs.no_origin_below(near, query)
@@ -415,6 +416,14 @@ impl<'a, S: OnSubject> NameJudge<'a, S> {
         ensures passed { IsErrOf result GraphFault.StatesPassed → PassesStates S.subject.config S.subject.rewrites S.states query.now }
     {
         self.graphs.graph(query)
+    }
+
+    /// The walk of a query with a type while the servers of the least set are followed, where it is seen without a graph
+    /// that there is no other.
+    pub(crate) fn only_walk(&self, query: &Name, rtype: RrType) -> Result<Option<Walk>, NoMemory>
+        ensures { IfOk result (λ found. IfSome found (IsOnlyOfLeast S.subject.config S.subject.rewrites query.now rtype)) }
+    {
+        self.graphs.only_walk(query, rtype)
     }
 
     /// The first server whose name reaches too many pairs of state and type, or `None` where none does.

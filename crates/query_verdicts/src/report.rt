@@ -1,7 +1,7 @@
 //! The report of a subject, from the verdicts of the names of its class tree: how many names and classes these have, and
 //! an entry for each fault, with the first class that shows it and the first walks of that class's representative.
 
-ghost use Rattle.std.specs.Prelude.{◌≡◌, ◌≤◌, ◌<◌, ◌^◌, All, length, IfOk, IfErr, IfSome, IsPermutation, OnOk, Some, slice_get};
+ghost use Rattle.std.specs.Prelude.{◌≡◌, ◌++◌, ◌∷◌, [], ◌≤◌, ◌<◌, ◌^◌, All, length, IfOk, IfErr, IfSome, IsPermutation, OnOk, Some, slice_get};
 ghost use Rattle.std.specs.List.Sorted.{IsSortedBy};
 ghost use Rattle.query_verdicts.specs.Entries.{IsEntryOf, IsRightFound, IsWalked, entry_of_parts};
 ghost use Rattle.query_verdicts.specs.Kept.{AreKept, AreKeptOf, IsKeptReport, PutsKept, is_kept_before};
@@ -188,14 +188,78 @@ fn kept_by_class<S: OnSubject, K: Kept + Drop>(
     let mut last = None;
     for one in found {
         let walked = put_kept(judge, last, one, &mut kept)?;
-        last = Some(walked);
+        last = walked;
     }
     Ok(kept)
 }
 
-/// Puts what is kept of the entry of a fault with its class at the end, and gives the walks of that class, for the next
-/// one.
+/// Puts what is kept of the entry of a fault with its class at the end, and gives the walks of a class, for the next one.
+/// Where the class's representative has one walk alone with the fault's type, no graph is made.
 fn put_kept<S: OnSubject, K: Kept + Drop>(
+    judge: &NameJudge<'_, S>,
+    last: Option<Walked>,
+    found: ClassFault,
+    kept: &mut List<K>,
+) -> Result<Option<Walked>, NoMemory>
+    requires none_passes { NonePasses S.subject S.states }
+    requires last { IfSome last (IsWalked S.subject) }
+    requires right { IsRightFound S.subject found }
+    ensures walked { IfOk result (λ walked. IfSome walked (IsWalked S.subject)) }
+    ensures put { OnOk result (PutsKept S.subject K.kept_of found kept.old kept.new) }
+{
+    match parts_alone(judge, &found)? {
+        Some(parts) => {
+            let entry = entry_of_parts(found, parts);
+            put_entry(judge, entry, kept)?;
+            Ok(last)
+        }
+        None => {
+            let walked = put_walked(judge, last, found, kept)?;
+            Ok(Some(walked))
+        }
+    }
+}
+
+/// Puts what is kept of the entry at the end.
+fn put_entry<S: OnSubject, K: Kept + Drop>(
+    judge: &NameJudge<'_, S>,
+    entry: ReportEntry,
+    kept: &mut List<K>,
+) -> Result<(), NoMemory>
+    ensures { OnOk result (kept.new ≡ kept.old ++ K.kept_of entry ∷ []) }
+{
+    let one = K::of_entry(judge.alloc(), entry)?;
+    kept.push(one)
+}
+
+/// What the entry of a fault has beside it, where the representative of the class that shows it has one walk alone with the
+/// fault's type, and that is seen without a graph.
+fn parts_alone<S: OnSubject>(
+    judge: &NameJudge<'_, S>,
+    found: &ClassFault,
+) -> Result<Option<EntryParts>, NoMemory>
+    requires right { IsRightFound S.subject found.now }
+    ensures { IfOk result (λ parts. IfSome parts (λ of. IsEntryOf S.subject found.now (entry_of_parts found.now of))) }
+{
+    let query = query_of(judge, &found.class)?;
+    match judge.only_walk(&query, found.seen.rtype)? {
+        Some(walk) => {
+            let repeats = repeats(judge.alloc(), &walk)?;
+            let mut walks = List::new(judge.alloc());
+            walks.push(walk)?;
+            Ok(Some(EntryParts {
+                query,
+                repeats,
+                walks,
+            }))
+        }
+        None => Ok(None),
+    }
+}
+
+/// Puts what is kept of the entry of a fault with its class at the end, by a graph of the walks of that class, and gives
+/// these, for the next one.
+fn put_walked<S: OnSubject, K: Kept + Drop>(
     judge: &NameJudge<'_, S>,
     last: Option<Walked>,
     found: ClassFault,
@@ -209,8 +273,7 @@ fn put_kept<S: OnSubject, K: Kept + Drop>(
 {
     let walked = walked_for(judge, last, &found)?;
     let entry = entry_of(judge, &walked, found)?;
-    let one = K::of_entry(judge.alloc(), entry)?;
-    kept.push(one)?;
+    put_entry(judge, entry, kept)?;
     Ok(walked)
 }
 

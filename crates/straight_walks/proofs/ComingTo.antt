@@ -6,12 +6,17 @@ use Rattle.std.specs.Prelude.{Contains, option_and_then, option_map}
 use Rattle.dns_data.specs.Name.{Labels}
 use Rattle.dns_data.specs.declared.rr_type.RrType.{RrType}
 use Rattle.graph_form.proofs.Places.{place_of_item}
+use Rattle.net_model.specs.Shown.{MayShow, Shows, WalksShow, with_lists}
 use Rattle.net_model.specs.Step.{Setting, Go, arrived, next, start}
 use Rattle.net_model.specs.Walk.{branched, led_on, walk_from}
+use Rattle.net_model.specs.declared.deps.Deps.{Deps}
+use Rattle.net_model.specs.declared.fault.Fault.{Fault}
+use Rattle.net_model.specs.declared.fault.Fault.TheVariants as faults
 use Rattle.net_model.specs.declared.walk.Leaf.{Leaf}
 use Rattle.net_model.specs.declared.walk.State.{State}
 use Rattle.walk_laws.specs.Outcome.{HasOutcome, outcome_of}
-use Rattle.straight_walks.specs.Searching.{EndsWith, IsComeTo, LeadsOn}
+use Rattle.straight_walks.specs.Nowhere.{EndShows}
+use Rattle.straight_walks.specs.Searching.{EndsInFault, EndsWith, IsComeTo, IsRestOfWalk, LeadsOn}
 
 module _ (setting : Setting) (query : Labels) (rtype : RrType) where
   -- walks of a query come to the states in which it begins
@@ -24,6 +29,8 @@ module _ (setting : Setting) (query : Labels) (rtype : RrType) where
             record {
               whole = walk;
               is_walk = (at ∷ numbers, ap (option_and_then (walk_from setting rtype numbers)) here ∙ e);
+              front = [];
+              states = refl;
               before = [];
               hops = refl;
               leaf = refl;
@@ -43,6 +50,8 @@ module _ (setting : Setting) (query : Labels) (rtype : RrType) where
               record {
                 whole = so.whole;
                 is_walk = so.is_walk;
+                front = so.front ++ state ∷ [];
+                states = so.states ∙ sym (append_assoc so.front (state ∷ []) walk.states);
                 before = so.before ++ hop ∷ [];
                 hops = so.hops ∙ sym (append_assoc so.before (hop ∷ []) walk.hops);
                 leaf = so.leaf;
@@ -54,3 +63,34 @@ module _ (setting : Setting) (query : Labels) (rtype : RrType) where
     comes_to_end outcome (numbers, walk, goes, told) =
         let so = comes.rest numbers walk goes in
         (so.whole, so.is_walk, ap outcome_of so.leaf ∙ told)
+
+    -- and it shows the fault that a walk from there shows by its end
+    pub comes_to_fault : (deps : Deps) (fault : Fault) → EndsInFault setting rtype state fault → Shows (with_lists setting deps.least deps.greatest) query rtype fault
+    comes_to_fault deps fault ends =
+        let so = comes.rest ends.numbers ends.walk ends.goes in
+        record {
+          walks = so.whole ∷ [];
+          by = record { may = may fault ends.shows; are_walks = (so.is_walk, tt); show = show so fault ends.shows };
+        }
+      where
+        may : (fault : Fault) → EndShows ends.walk fault → MayShow setting.config query rtype fault
+        may (faults.Blackhole place) shows = tt
+        may (faults.Limit place) shows = tt
+        may fault shows = absurd shows
+
+        show : (so : IsRestOfWalk setting query rtype ends.walk) (fault : Fault) → EndShows ends.walk fault → WalksShow (with_lists setting deps.least deps.greatest) (so.whole ∷ []) fault
+        show so (faults.Blackhole place) shows =
+            record {
+              rewritten =
+                  record {
+                    before = so.front ++ shows.rewritten.before;
+                    last = shows.rewritten.last;
+                    states =
+                        so.states ∙ ap (λ (states : List State). so.front ++ states) shows.rewritten.states
+                        ∙ sym (append_assoc so.front shows.rewritten.before (shows.rewritten.last ∷ []));
+                    at_place = shows.rewritten.at_place;
+                  };
+              ends = so.leaf ∙ shows.ends;
+            }
+        show so (faults.Limit place) shows = so.leaf ∙ shows
+        show so fault shows = absurd shows

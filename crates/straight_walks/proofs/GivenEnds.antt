@@ -1,5 +1,5 @@
 -- What is told of the ends that a search gives, where it gives some.
-use Rattle.std.proofs.Common.{◌≡◌, ℕ, ◌*◌, ◌/◌, ◌≤◌, ◌++◌, true, Option, Some, None, Result, Ok, Err, refl, subst, inl, inr, arith}
+use Rattle.std.proofs.Common.{◌≡◌, ℕ, ◌*◌, ◌/◌, ◌≤◌, ◌++◌, true, List, Option, Some, None, Result, Ok, Err, refl, subst, inl, inr, arith}
 use Rattle.std.specs.Prelude.{◌↔◌, IfOk, IfSome}
 use Rattle.std.proofs.Math.Nat.{div-mul-le_self}
 use Rattle.std.proofs.lemmas.Nat.{mul-le}
@@ -14,12 +14,14 @@ use Rattle.net_model.specs.Tails.{IsUnnamedTail}
 use Rattle.net_model.specs.Tree.{HasMoreThan, IsReached}
 use Rattle.net_model.specs.Walk.{IsBoundedWith}
 use Rattle.net_model.specs.declared.config.Config.{Config}
+use Rattle.net_model.specs.declared.fault.Fault.{Fault}
 use Rattle.net_model.specs.declared.walk.Leaf.{Leaf}
 use Rattle.walk_laws.specs.Outcome.{HasOutcome}
 use Rattle.straight_walks.specs.Ends.{IsOutcomeOf}
 use Rattle.straight_walks.specs.Searching.{GoesStraightIn, nothing_below, HoldsOfEachName}
 use Rattle.straight_walks.specs.Faulty.{AreAbove, ShowsThese}
-use Rattle.straight_walks.specs.Straight.{GoesStraight, NoOriginBetween, faults_by_ends}
+use Rattle.straight_walks.specs.Nowhere.{told_with}
+use Rattle.straight_walks.specs.Straight.{GoesStraight, NoOriginBetween, faults_by_ends, told_of}
 use Rattle.straight_walks.specs.declared.ends.StraightEnds.{StraightEnds}
 use Rattle.straight_walks.proofs.FewStates.{few_states}
 use Rattle.straight_walks.proofs.LeastFollowed.{all_followed, least_followed}
@@ -34,11 +36,11 @@ module _ (config : Config) (deps : Deps) (rewrites most : ℕ) (query : Labels) 
   module _ (ends : StraightEnds) (straight : GoesStraightIn config deps rewrites most query ends) where
     -- the query goes straight while the servers of the least set are followed
     in_least : Straight (following config rewrites deps.least) ends
-    in_least = straight (following config rewrites deps.least) (record { config_is = refl; follows = least_followed config rewrites deps }) (omega arith)
+    in_least = straight (following config rewrites deps.least) (record { config_is = refl; follows = least_followed config rewrites deps }) refl
 
     -- the query goes straight while all servers are followed
     in_all : Straight (following config rewrites (server_names config)) ends
-    in_all = straight (following config rewrites (server_names config)) (record { config_is = refl; follows = all_followed config rewrites deps }) (omega arith)
+    in_all = straight (following config rewrites (server_names config)) (record { config_is = refl; follows = all_followed config rewrites deps }) refl
 
 -- where ends are given
 module _ (config : Config) (deps : Deps) (rewrites most : ℕ) (query : Labels) {E : Type 0} (given : Result (Option StraightEnds) E) where
@@ -96,7 +98,7 @@ module _ (config : Config) (deps : Deps) (rewrites most : ℕ) (query : Labels) 
   shown_given_below =
       by_straight (λ ends. ends.below ≡ true → (name : Labels) → NoOriginBetween config query name → ShowsThese (with_lists (following config rewrites deps.least) deps.least deps.greatest) name (faults_by_ends query ends))
       (λ ends straight below name between.
-      subst (ShowsThese (with_lists (following config rewrites deps.least) deps.least deps.greatest) name)
+      subst (λ (all : List Fault). ShowsThese (with_lists (following config rewrites deps.least) deps.least deps.greatest) name (λ rtype. told_with (told_of ends) rtype ++ all))
       (same_faults_below query name between.above ends.faulty.items (are_above ends (straight query ends (inl (refl, refl)))))
       (shows_these (following config rewrites deps.least) deps most name ends (in_least config deps rewrites most name ends (straight name ends (inr (inl (below, between, refl)))))))
 
@@ -108,7 +110,7 @@ module _ (config : Config) (deps : Deps) (rewrites most : ℕ) (query : Labels) 
       by_straight (λ ends. ends.unnamed_below ≡ true → (tail : Labels) → IsUnnamedTail config query tail
       → ShowsThese (with_lists (following config rewrites deps.least) deps.least deps.greatest) (query ++ tail) (faults_by_ends query ends))
       (λ ends straight below tail is.
-      subst (ShowsThese (with_lists (following config rewrites deps.least) deps.least deps.greatest) (query ++ tail))
+      subst (λ (all : List Fault). ShowsThese (with_lists (following config rewrites deps.least) deps.least deps.greatest) (query ++ tail) (λ rtype. told_with (told_of ends) rtype ++ all))
       (same_faults query tail ends.faulty.items (are_above ends (straight query ends (inl (refl, refl)))))
       (shows_these (following config rewrites deps.least) deps most (query ++ tail) (nothing_below ends)
       (in_least config deps rewrites most (query ++ tail) (nothing_below ends) (straight (query ++ tail) (nothing_below ends) (inr (inr (below, (tail, is, refl), refl)))))))

@@ -2,6 +2,7 @@ mod Worked
 pub mod AliasWalks
 pub mod AliasEnds
 pub mod BeginningSearches
+pub mod Blackholes
 pub mod ComingTo
 pub mod FewStates
 pub mod GivenEnds
@@ -9,6 +10,7 @@ pub mod LeastFollowed
 pub mod MarkedStates
 pub mod GoingOn
 pub mod Replies
+mod OwnedTypes
 pub mod SameOutcomes
 pub mod StatesBehind
 pub mod ShownFaults

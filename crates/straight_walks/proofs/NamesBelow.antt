@@ -1,5 +1,5 @@
 -- What a search passes for a query it passes for the names below it of which ends are told.
-use Rattle.std.proofs.Common.{◌≡◌, Vec, Global, ℕ, ◌+◌, ◌<◌, ◌++◌, Bool, true, List, length, take, get_or, IfSome, Bor, refl, sym, ap, ◌∙◌, subst, inl, inr, true≢false}
+use Rattle.std.proofs.Common.{◌≡◌, Vec, Global, ℕ, ◌+◌, ◌<◌, ◌++◌, Bool, true, List, [], length, take, get_or, IfSome, Bor, refl, sym, ap, ◌∙◌, subst, inl, inr, true≢false}
 use Rattle.std.specs.List.{slice_get}
 use Rattle.std.proofs.lemmas.Bool.{and_parts}
 use Rattle.std.proofs.lemmas.Option.{IfSome_then}
@@ -11,11 +11,14 @@ use Rattle.net_model.specs.declared.config.Config.{Config}
 use Rattle.zone_tree.specs.Tree.{ZoneTree, name_of}
 use Rattle.zone_lookup.specs.CutTable.{cut_to}
 use Rattle.zone_lookup.specs.Reply.{IsReply}
-use Rattle.straight_walks.specs.Searching.{AllEndOutside, AreEndsFor, AreReferrals, EndsOutside, HavePassed, HasPassed, IsAnswered, IsReferral, Known, PassesServer, failing, no_flags, nothing_below, nothing_there, unanswered}
+use Rattle.straight_walks.specs.Searching.{AllEndOutside, AnswerIsPut, AreEndsFor, AreReferrals, EndsOutside, HavePassed, HasPassed, IsAnswered, IsReferral, Known, PassesServer, failing, no_flags, nothing_below, nothing_there, unanswered}
 use Rattle.straight_walks.specs.Regions.{IsSearchBelow}
 use Rattle.straight_walks.specs.Straight.{NoOriginBetween}
 use Rattle.straight_walks.specs.declared.ends.StraightEnds.{StraightEnds}
 use Rattle.straight_walks.specs.declared.faulty.Faulty.{Faulty}
+use Rattle.straight_walks.specs.Nowhere.{Told, untold}
+use Rattle.straight_walks.specs.declared.lent_place.AliasFault.{AliasFault}
+use Rattle.straight_walks.specs.declared.lent_place.LentPlace.{LentPlace}
 use Rattle.straight_walks.specs.declared.name_server.Referral.TheVariants as referral
 use Rattle.straight_walks.specs.declared.queue.Queued.{Queued}
 use Rattle.straight_walks.specs.declared.searching.Search.{Search}
@@ -25,7 +28,7 @@ use Rattle.straight_walks.proofs.GoingOn.{all_that_end}
 use Rattle.straight_walks.proofs.OtherNames.{refers_for}
 use Rattle.straight_walks.proofs.RegionSearch.{refers_below}
 use Rattle.straight_walks.proofs.Replies.{refers_held}
-use Rattle.straight_walks.proofs.StraightSearch.{answer_passes, one_passed, outside_passes, referral_passed, referral_passes, same_told}
+use Rattle.straight_walks.proofs.StraightSearch.{answer_passes, one_passed, outside_passes, referral_passed, referral_passes, same_faulty_told}
 use Rattle.straight_walks.proofs.UnnamedBelow.{none_between, nothing_so, put_below}
 
 module _ (config : Config) (deps : Deps) (query : Labels) where
@@ -36,28 +39,37 @@ module _ (config : Config) (deps : Deps) (query : Labels) where
   between ends name found (inr (inr unnamed)) =
       let (tail, is, whole) = unnamed.1 in subst (NoOriginBetween config query) (sym whole) (none_between config query tail is)
 
-  -- the ends of each name of which the query's ends tell have the query's rewrites
-  pub same_rewrites : (ends : StraightEnds) (name : Labels) (found : StraightEnds) → AreEndsFor config query ends name found → found.rewrites ≡ ends.rewrites
-  same_rewrites ends name found (inl itself) = ap (λ (e : StraightEnds). e.rewrites) itself.1
-  same_rewrites ends name found (inr (inl below)) = ap (λ (e : StraightEnds). e.rewrites) below.2
-  same_rewrites ends name found (inr (inr unnamed)) = ap (λ (e : StraightEnds). e.rewrites) unnamed.2
+  -- the ends of each name of which the query's ends tell have the query's rewrites and faults of aliases
+  pub same_told : (ends : StraightEnds) (name : Labels) (found : StraightEnds) → AreEndsFor config query ends name found
+      → (found.rewrites ≡ ends.rewrites) × (found.alias_faults ≡ ends.alias_faults)
+  same_told ends name found (inl itself) = (ap (λ (e : StraightEnds). e.rewrites) itself.1, ap (λ (e : StraightEnds). e.alias_faults) itself.1)
+  same_told ends name found (inr (inl below)) = (ap (λ (e : StraightEnds). e.rewrites) below.2, ap (λ (e : StraightEnds). e.alias_faults) below.2)
+  same_told ends name found (inr (inr unnamed)) = (ap (λ (e : StraightEnds). e.rewrites) unnamed.2, ap (λ (e : StraightEnds). e.alias_faults) unnamed.2)
 
   -- the states that a search for an origin has passed are passed for each name of which the ends tell
-  pub begun : (searched : Search) (faulty : Vec Faulty Global) → faulty.items ≡ searched.faulty.items → IsSearchBelow config deps query searched
-      → HavePassed config deps query searched.queue.items searched.passed (unanswered searched.fails faulty)
-  begun searched faulty told is name found of =
-      let passed = is name (between (unanswered searched.fails faulty) name found of) in
-      subst (HasPassed config deps name searched.queue.items searched.passed) (sym (same of))
-      (record {
-        within = passed.within;
-        walked =
-            same_told config deps name searched.queue.items (take searched.passed searched.queue.items) (unanswered searched.fails searched.faulty) faulty told passed.walked;
-      })
+  pub begun : (searched : Search) (faulty : Vec Faulty Global) → faulty.items ≡ searched.faulty.items → (places : List LentPlace) → places ≡ [] → (aliases : List AliasFault) → aliases ≡ []
+      → IsSearchBelow config deps query searched
+      → HavePassed config deps query searched.queue.items searched.passed (record (unanswered searched.fails faulty) { blackholes = places; alias_faults = aliases })
+  begun searched faulty told places none aliases none_too is =
+      subst (λ (all : List AliasFault). HavePassed config deps query searched.queue.items searched.passed (record (unanswered searched.fails faulty) { blackholes = places; alias_faults = all }))
+      (sym none_too)
+      (subst (λ (all : List LentPlace). HavePassed config deps query searched.queue.items searched.passed (record (unanswered searched.fails faulty) { blackholes = all }))
+      (sym none) passed)
     where
-      same : AreEndsFor config query (unanswered searched.fails faulty) name found → found ≡ unanswered searched.fails faulty
-      same (inl itself) = itself.1
-      same (inr (inl below)) = below.2
-      same (inr (inr unnamed)) = unnamed.2
+      passed : HavePassed config deps query searched.queue.items searched.passed (unanswered searched.fails faulty)
+      passed name found of =
+          let before = is name (between (unanswered searched.fails faulty) name found of) in
+          subst (HasPassed config deps name searched.queue.items searched.passed) (sym (same of))
+          (record {
+            within = before.within;
+            walked =
+                same_faulty_told config deps name searched.queue.items (take searched.passed searched.queue.items) (unanswered searched.fails searched.faulty) faulty told before.walked;
+          })
+        where
+          same : AreEndsFor config query (unanswered searched.fails faulty) name found → found ≡ unanswered searched.fails faulty
+          same (inl itself) = itself.1
+          same (inr (inl below)) = below.2
+          same (inr (inr unnamed)) = unnamed.2
 
   -- ---- one server
 
@@ -126,7 +138,7 @@ module _ (config : Config) (deps : Deps) (query : Labels) where
       ends,
       inl (itself.0, refl),
       subst (λ (n : Labels). PassesServer config deps n server queue ends queue found) (sym itself.0)
-          (subst (PassesServer config deps query server queue ends queue) (sym itself.1) (answer_passes config deps query server queue ends so.answering so.rewrites so.none_below after so.answers so.put)),
+          (subst (PassesServer config deps query server queue ends queue) (sym itself.1) (answer_passes config deps query server queue ends so.answering so.rewrites so.none_below so.told after so.so so.put)),
     )
     answer_for after so name found (inr (inl below)) = absurd (true≢false (sym below.0 ∙ so.put.alone))
     answer_for after so name found (inr (inr unnamed)) =
@@ -136,8 +148,10 @@ module _ (config : Config) (deps : Deps) (query : Labels) where
           inr (inr (told.0, unnamed.1, refl)),
           subst (λ (n : Labels). PassesServer config deps n server queue (nothing_below ends) queue found) (sym whole)
               (subst (PassesServer config deps (query ++ tail) server queue (nothing_below ends) queue) (sym unnamed.2)
-              (answer_passes config deps (query ++ tail) server queue (nothing_below ends) (nothing_there so.answering) 0 so.none_below (nothing_below after)
-              (nothing_so config query server tail so.answering is (so.below told.1)) (put_below ends after so.answering so.rewrites so.none_below so.put))),
+              (answer_passes config deps (query ++ tail) server queue (nothing_below ends) (nothing_there so.answering) 0 so.none_below untold (nothing_below after)
+              (nothing_so config query server tail so.answering is (so.below told.1))
+              (subst (λ (told : Told). AnswerIsPut (nothing_below ends) (nothing_there so.answering) 0 so.none_below told (nothing_below after)) (so.tells_nothing told.1)
+              (put_below ends after so.answering so.rewrites so.none_below so.told so.put)))),
         )
 
   -- ---- one state more

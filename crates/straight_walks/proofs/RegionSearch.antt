@@ -26,7 +26,7 @@ use Rattle.straight_walks.specs.declared.searching.Search.{Search}
 use Rattle.zone_lookup.specs.declared.reply.Reply.TheVariants as reply
 use Rattle.straight_walks.proofs.BelowOrigins.{cut_stays, none_between_itself, same_nearest}
 use Rattle.straight_walks.proofs.OtherNames.{refers_for}
-use Rattle.straight_walks.proofs.StraightSearch.{one_walked, outside_passes, referral_passes, same_told, walked_among}
+use Rattle.straight_walks.proofs.StraightSearch.{one_walked, outside_passes, referral_passes, same_faulty_told, walked_among}
 
 module _ (config : Config) (deps : Deps) (origin : Labels) where
   -- ---- one server
@@ -224,7 +224,7 @@ module _ (config : Config) (deps : Deps) (origin : Labels) where
         walked =
             subst (λ (first : List Queued). HasWalked config deps query searched.queue.items first (unanswered searched.fails searched.faulty)) (sym first_are)
             (subst (λ (fails : Bool). HasWalked config deps query searched.queue.items search.passed.items (unanswered fails searched.faulty)) (sym fails_is)
-            (same_told config deps query searched.queue.items search.passed.items (unanswered search.fails search.faulty) searched.faulty faulty_is
+            (same_faulty_told config deps query searched.queue.items search.passed.items (unanswered search.fails search.faulty) searched.faulty faulty_is
             (walked_among config deps query search.queue searched.queue.items search.passed.items (unanswered search.fails search.faulty) among back (so.walked query nearest))));
       }
     where

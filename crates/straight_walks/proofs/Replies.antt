@@ -45,16 +45,16 @@ module _ (config : Config) (query server : Labels) (setting : Setting) (rtype : 
       (subst (λ (name : Labels). IsReply config name state.name one) (sym at) (subst (λ (name : Labels). IsReply config server name one) (sym named) so))
 
   -- the place of a rewrite by a record of the owner
-  abbrev place_of : Labels → Labels → Place
+  abbrev pub place_of : Labels → Labels → Place
   place_of origin owner = record { server = state.server; zone = origin; owner = owner }
 
   -- the state with the name to which it leads, at the same server
-  abbrev rewritten_to : Labels → Labels → Bool → Labels → State
+  abbrev pub rewritten_to : Labels → Labels → Bool → Labels → State
   rewritten_to origin owner redirects to =
       arrived setting.config to (state.carried && redirects) (state.used + 1) (Some (place_of origin owner)) state.server
 
   -- walks go on to it, if they may and the server has a zone for the name
-  rewritten_goes : (origin owner : Labels) (redirects : Bool) (to : Labels) → state.used < setting.rewrites → is_some (nearest_of config server to) ≡ true
+  pub rewritten_goes : (origin owner : Labels) (redirects : Bool) (to : Labels) → state.used < setting.rewrites → is_some (nearest_of config server to) ≡ true
       → after_lookup setting state origin (found_as.Rewrite redirects owner to)
       ≡ Go (Rewrite (place_of origin owner) redirects to) (rewritten_to origin owner redirects to) ∷ []
   rewritten_goes origin owner redirects to fewer held =
@@ -79,22 +79,12 @@ module _ (config : Config) (query server : Labels) (setting : Setting) (rtype : 
         ∙ ap (λ (b : Bool). replying.by_alias setting state rtype tree.now owner (if b then None else Some target.now)) is
         ∙ answers (sorted_data tree.now.zone (name_of tree.now owner) rtype) setting state tree.now.zone.origin
 
-    -- the place of the alias
-    abbrev pub place : Place
-    place = place_of tree.now.zone.origin (name_of tree.now owner)
-
-    -- the state with the alias's target at the same server
-    abbrev pub aliased_to : State
-    aliased_to = rewritten_to tree.now.zone.origin (name_of tree.now owner) false target.now
-
-    -- with each type but CNAME walks go on to the target of an alias, if a rewrite is left and the server has a zone
-    -- for the target
-    pub alias_goes : type_eq rtype types.Cname ≡ false → state.used < setting.rewrites → is_some (nearest_of config server target.now) ≡ true
-        → next setting rtype state ≡ Go (Rewrite place false target.now) aliased_to ∷ []
-    alias_goes other fewer held =
+    -- with each type but CNAME it finds a rewrite to the alias's target
+    pub alias_found : type_eq rtype types.Cname ≡ false
+        → next setting rtype state ≡ after_lookup setting state tree.now.zone.origin (found_as.Rewrite false (name_of tree.now owner) target.now)
+    alias_found other =
         replying.alias_leads setting state rtype tree owner target (at_state (reply.Alias tree owner target) so)
         ∙ ap (λ (b : Bool). replying.by_alias setting state rtype tree.now owner (if b then None else Some target.now)) other
-        ∙ rewritten_goes tree.now.zone.origin (name_of tree.now owner) false target.now fewer held
 
   -- a name that a DNAME record redirects
   module _ (tree : Bor ZoneTree) (owner : ℕ) (target : Bor Labels) (so : IsReply config server query (reply.Redirects tree owner target)) where

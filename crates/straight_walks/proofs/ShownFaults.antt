@@ -1,5 +1,5 @@
--- The faults that a query shows by its referrals, with the first type, one referral after the other.
-use Rattle.std.proofs.Common.{◌≡◌, ℕ, ◌+◌, ◌<◌, List, [], ◌∷◌, ◌++◌, length, take, get_or, sym, ap, ◌∙◌}
+-- The faults that a query shows by its blackholes and its referrals, with the first type, one after the other.
+use Rattle.std.proofs.Common.{◌≡◌, ℕ, ◌+◌, ◌<◌, List, [], ◌∷◌, ◌++◌, length, map, take, get_or, sym, ap, ◌∙◌}
 use Rattle.std.specs.List.{flat_map}
 use Rattle.std.proofs.lemmas.Grind.{flat_map-append}
 use Rattle.std.proofs.lemmas.List.{append-nil, append_assoc, map-append, take_more}
@@ -9,8 +9,12 @@ use Rattle.dns_data.specs.declared.rr_type.RrType.TheVariants as types
 use Rattle.graph_form.specs.Branches.{with_type}
 use Rattle.graph_form.specs.declared.report.Seen.{Seen}
 use Rattle.net_model.specs.declared.fault.Fault.{Fault}
+use Rattle.net_model.specs.declared.fault.Fault.TheVariants as faults
 use Rattle.straight_walks.specs.Faulty.{faults_at, faulty_cut, flag_faults}
+use Rattle.straight_walks.specs.Nowhere.{alias_fault, blackholes_at, place_of}
 use Rattle.straight_walks.specs.declared.faulty.Faulty.{Faulty}
+use Rattle.straight_walks.specs.declared.lent_place.AliasFault.{AliasFault}
+use Rattle.straight_walks.specs.declared.lent_place.LentPlace.{LentPlace}
 
 -- a fault with the first type
 abbrev seen_of : Fault → Seen
@@ -43,3 +47,38 @@ one_more query faulty at one within is =
 
     alone : (one : Faulty) → flat_map faults (one ∷ []) ≡ faults one
     alone one = flat_map-cons faults one [] ∙ append-nil (faults one)
+
+-- those of one referral more, behind other faults
+pub one_more_behind : (others : List Fault) (query : Labels) (faulty : List Faulty) (at : ℕ) (one : Faulty) → at < length faulty → one ≡ get_or faulty at one
+    → with_type types.A (others ++ faults_at query (take at faulty)) ++ with_type types.A (flag_faults one.flags (faulty_cut query one))
+    ≡ with_type types.A (others ++ faults_at query (take (at + 1) faulty))
+one_more_behind others query faulty at one within is =
+    let flagged = with_type types.A (flag_faults one.flags (faulty_cut query one)) in
+    ap (λ (all : List Seen). all ++ flagged) (map-append seen_of others (faults_at query (take at faulty)))
+    ∙ append_assoc (with_type types.A others) (with_type types.A (faults_at query (take at faulty))) flagged
+    ∙ ap (λ (all : List Seen). with_type types.A others ++ all) (one_more query faulty at one within is)
+    ∙ sym (map-append seen_of others (faults_at query (take (at + 1) faulty)))
+
+-- one blackhole more
+pub one_hole_more : (old : List Seen) (places : List LentPlace) (at : ℕ) (one : LentPlace) → at < length places → one ≡ get_or places at one
+    → (old ++ with_type types.A (blackholes_at (take at places))) ++ with_type types.A (blackholes_at (one ∷ []))
+    ≡ old ++ with_type types.A (blackholes_at (take (at + 1) places))
+one_hole_more old places at one within is =
+    append_assoc old (with_type types.A (blackholes_at (take at places))) (with_type types.A (blackholes_at (one ∷ [])))
+    ∙ ap (λ (all : List Seen). old ++ all)
+    (sym (map-append seen_of (blackholes_at (take at places)) (blackholes_at (one ∷ [])))
+    ∙ ap (with_type types.A) (sym (map-append hole_of (take at places) (one ∷ []))
+    ∙ ap blackholes_at (sym (take_more places at one within ∙ (λ i. take at places ++ sym is i ∷ [])))))
+  where
+    hole_of : LentPlace → Fault
+    hole_of place = faults.Blackhole (place_of place)
+
+-- one fault of an alias more
+pub one_alias_more : (old : List Seen) (all : List AliasFault) (at : ℕ) (one : AliasFault) → at < length all → one ≡ get_or all at one
+    → (old ++ with_type types.A (map alias_fault (take at all))) ++ with_type types.A (alias_fault one ∷ []) ≡ old ++ with_type types.A (map alias_fault (take (at + 1) all))
+one_alias_more old all at one within is =
+    append_assoc old (with_type types.A (map alias_fault (take at all))) (with_type types.A (alias_fault one ∷ []))
+    ∙ ap (λ (rest : List Seen). old ++ rest)
+    (sym (map-append seen_of (map alias_fault (take at all)) (alias_fault one ∷ []))
+    ∙ ap (with_type types.A) (sym (map-append alias_fault (take at all) (one ∷ []))
+    ∙ ap (map alias_fault) (sym (take_more all at one within ∙ (λ i. take at all ++ sym is i ∷ [])))))

@@ -25,7 +25,7 @@ module _ (setting : Setting) (deps : Deps) (faulty : List Fault) (ends : Straigh
   -- the states behind it
   abbrev behind_of : (state : State) → Pass state → List State
   behind_of state (inl branches) = []
-  behind_of state (inr (behind, leaf, few, is, told, answers)) = behind
+  behind_of state (inr (behind, leaf, few, told, answers)) = behind
 
   -- some states, each with those behind it
   abbrev pub with_behind : (some : List State) → AllByRecursion Pass some → List State
@@ -35,7 +35,7 @@ module _ (setting : Setting) (deps : Deps) (faulty : List Fault) (ends : Straigh
   -- behind each there are no more than the rewrites of the ends
   few_behind : (state : State) (pass : Pass state) → length (behind_of state pass) ≤ ends.rewrites
   few_behind state (inl branches) = omega arith
-  few_behind state (inr (behind, leaf, few, is, told, answers)) = few
+  few_behind state (inr (behind, leaf, few, told, answers)) = few
 
   -- some states with those behind them are at most so many times the states
   pub few_in_all : (times : ℕ) → ends.rewrites < times → (some : List State) (pass : AllByRecursion Pass some) → length (with_behind some pass) ≤ length some * times
@@ -67,7 +67,7 @@ module _ (setting : Setting) (deps : Deps) (faulty : List Fault) (ends : Straigh
       all_so (FailsOrGoes setting.config deps faulty ends.fails states) (BranchStraight setting deps faulty ends rtype all state) (next setting rtype state) (branch_steps state) branches,
       tt,
     )
-    one_steps state (inr (behind, leaf, few, is, told, answers)) among = along_steps setting deps faulty ends rtype all leaf is told state behind answers among
+    one_steps state (inr (behind, leaf, few, told, answers)) among = along_steps setting deps faulty ends rtype all leaf told state behind answers among
 
     -- from each of some states, and from each state behind them, walks go straight among all states that have them
     pub all_step : (some : List State) (pass : AllByRecursion Pass some) → ((state : State) → Contains (with_behind some pass) state → Contains all state)

@@ -7,7 +7,6 @@ use Rattle.std.proofs.lemmas.List.Elements.{Contains-append_cases, Contains-appe
 use Rattle.std.proofs.lemmas.Option.{slice_get_read}
 use Rattle.dns_data.specs.Name.{Labels}
 use Rattle.dns_data.specs.declared.rr_type.RrType.{RrType}
-use Rattle.dns_data.specs.declared.rr_type.RrType.TheVariants as types
 use Rattle.dns_data.proofs.Membership.{each_along, from_map, has_first, map_has, none_in_nil}
 use Rattle.dns_data.proofs.Names.{all_append, all_push, all_so}
 use Rattle.net_model.specs.declared.deps.Deps.{Deps}
@@ -22,22 +21,24 @@ use Rattle.net_model.specs.declared.walk.Leaf.TheVariants.{Outside}
 use Rattle.net_model.specs.declared.walk.State.{State}
 use Rattle.walk_laws.specs.Outcome.{HasOutcome, outcome_of}
 use Rattle.zone_tree.specs.Tree.{ZoneTree, name_of}
-use Rattle.straight_walks.specs.Answers.{AnswerOwners, leaf_of}
+use Rattle.straight_walks.specs.Answers.{AnswerOwners, outcome_with}
 use Rattle.straight_walks.specs.Ends.{IsOutcomeOf}
 use Rattle.zone_lookup.specs.Reply.{IsReply}
-use Rattle.straight_walks.specs.Searching.{AnswersSo, AreReferrals, BeginsAtTops, EndsWith, GoesStraightIn, HasPassed, HasWalked, IsBegun, IsComeTo, AnswerIsPut, IsSettingFor, IsSettingOf, KeepsOutcomes, LeadsOn, PassesServer, PassesState, state_at, queued_state, to_servers, unanswered, HoldsOfEachName}
+use Rattle.straight_walks.specs.Searching.{AnswersSo, AreReferrals, BeginsAtTops, EndsWith, GoesStraightIn, HasPassed, HasWalked, IsBegun, IsComeTo, AnswerIsPut, IsSettingFor, IsSettingOf, KeepsOutcomes, LeadsOn, MayRewrite, PassesServer, PassesState, StateShows, state_at, queued_state, to_servers, unanswered, HoldsOfEachName}
 use Rattle.straight_walks.specs.Faulty.{AreAbove, BranchShows, faults_at}
-use Rattle.straight_walks.specs.Straight.{BranchStraight, FailsOrGoes, StepsStraight, faults_by_ends}
+use Rattle.straight_walks.specs.Nowhere.{HasLimit, Told, told_with}
+use Rattle.straight_walks.specs.Straight.{BranchStraight, FailsOrGoes, StepsStraight, faults_by_ends, told_of}
 use Rattle.straight_walks.specs.declared.faulty.Faulty.{Faulty}
 use Rattle.straight_walks.proofs.BranchShown.{by_branch}
 use Rattle.straight_walks.specs.declared.ends.StraightEnds.{StraightEnds}
 use Rattle.straight_walks.specs.declared.queue.Queued.{Queued}
 use Rattle.zone_lookup.specs.declared.reply.Reply.TheVariants as reply
-use Rattle.straight_walks.proofs.AliasWalks.{ends_along, ends_by_branch}
-use Rattle.straight_walks.proofs.ComingTo.{comes_first, comes_on, comes_to_end}
-use Rattle.straight_walks.proofs.GoingOn.{fails_or_goes_still, faults_kept, still_queued}
+use Rattle.straight_walks.proofs.AliasWalks.{along_more, ends_along, ends_by_branch}
+use Rattle.straight_walks.proofs.AliasEnds.{untold_with}
+use Rattle.straight_walks.proofs.Blackholes.{limits_before, limits_put, told_before, told_kept, told_then}
+use Rattle.straight_walks.proofs.ComingTo.{comes_first, comes_on, comes_to_end, comes_to_fault}
+use Rattle.straight_walks.proofs.GoingOn.{fails_or_goes_still, still_queued}
 use Rattle.straight_walks.proofs.Replies.{outside_ends, refers_to}
-use Rattle.straight_walks.proofs.SameOutcomes.{answers_told, outcome_told}
 use Rattle.straight_walks.proofs.StatesBehind.{all_step, few_in_all, still_there, with_behind}
 
 module _ (config : Config) (deps : Deps) (query : Labels) where
@@ -48,24 +49,35 @@ module _ (config : Config) (deps : Deps) (query : Labels) where
   -- where walks may be rewritten as often as the ends tell they may as often as those before told
   setting_before : (ends_before ends : StraightEnds) → KeepsOutcomes ends_before ends → (setting : Setting) → IsSettingFor config deps ends setting
       → IsSettingFor config deps ends_before setting
-  setting_before ends_before ends still setting of = record { is_of = of.is_of; rewrites = omega (arith, still.rewrites, of.rewrites) }
+  setting_before ends_before ends still setting of =
+      record {
+        is_of = of.is_of;
+        rewrites = omega (arith, still.rewrites, of.rewrites);
+        limits = limits_before setting.rewrites ends_before.alias_faults ends.alias_faults still.alias_faults of.limits;
+      }
 
   module _ (setting : Setting) (before after : List Queued) (more : AreAmong before after) (ends_before ends : StraightEnds) (still : KeepsOutcomes ends_before ends) (rtype : RrType) where
     -- a branch that ends or goes on to queued states does so where those and others are, and more outcomes are told
-    branch_still : (branch : Branch) → FailsOrGoes setting.config deps (faults_by_ends query ends_before) ends_before.fails (map (queued_state config query) before) branch
-        → FailsOrGoes setting.config deps (faults_by_ends query ends) ends.fails (map (queued_state config query) after) branch
+    branch_still : (branch : Branch) → FailsOrGoes setting.config deps (faults_by_ends query ends_before rtype) ends_before.fails (map (queued_state config query) before) branch
+        → FailsOrGoes setting.config deps (faults_by_ends query ends rtype) ends.fails (map (queued_state config query) after) branch
     branch_still =
-        fails_or_goes_still setting.config deps (faults_by_ends query ends_before) (faults_by_ends query ends)
-        (faults_kept query ends_before.faulty.items ends.faulty.items still.faulty) ends_before.fails ends.fails (still.outcomes rtype None)
+        fails_or_goes_still setting.config deps (faults_by_ends query ends_before rtype) (faults_by_ends query ends rtype)
+        (told_kept query ends_before ends still rtype) ends_before.fails ends.fails still.fails
         (map (queued_state config query) before) (map (queued_state config query) after) more
 
     -- walks still go straight from a state then
-    steps_still : (state : State) → PassesState setting deps (faults_by_ends query ends_before) ends_before rtype (map (queued_state config query) before) state
-        → PassesState setting deps (faults_by_ends query ends) ends rtype (map (queued_state config query) after) state
+    steps_still : (state : State) → PassesState setting deps (faults_by_ends query ends_before rtype) ends_before rtype (map (queued_state config query) before) state
+        → PassesState setting deps (faults_by_ends query ends rtype) ends rtype (map (queued_state config query) after) state
     steps_still state (inl branches) =
-        inl (all_so (FailsOrGoes setting.config deps (faults_by_ends query ends_before) ends_before.fails (map (queued_state config query) before))
-        (FailsOrGoes setting.config deps (faults_by_ends query ends) ends.fails (map (queued_state config query) after)) (next setting rtype state) branch_still branches)
-    steps_still state (inr (behind, leaf, few, is, told, along)) = inr (behind, leaf, omega (arith, few, still.rewrites), is, still.outcomes rtype (Some leaf) told, along)
+        inl (all_so (FailsOrGoes setting.config deps (faults_by_ends query ends_before rtype) ends_before.fails (map (queued_state config query) before))
+        (FailsOrGoes setting.config deps (faults_by_ends query ends rtype) ends.fails (map (queued_state config query) after)) (next setting rtype state) branch_still branches)
+    steps_still state (inr (behind, leaf, few, told, along)) = inr (
+      behind,
+      leaf,
+      omega (arith, few, still.rewrites),
+      still.outcomes rtype (outcome_of leaf) told,
+      along_more setting (faults_by_ends query ends_before rtype) (faults_by_ends query ends rtype) (told_kept query ends_before ends still rtype) rtype leaf state behind along,
+    )
 
   -- ---- one server
 
@@ -75,13 +87,13 @@ module _ (config : Config) (deps : Deps) (query : Labels) where
     outside_passes so =
         record {
           extends = ([], sym (append-nil queue));
-          still = record { rewrites = omega arith; faulty = ([], sym (append-nil ends.faulty.items)); outcomes = still };
+          still = record { rewrites = omega arith; fails = λ is. refl; faulty = ([], sym (append-nil ends.faulty.items)); blackholes = ([], refl); alias_faults = ([], refl); outcomes = still };
           above = λ above. above;
           steps = λ setting rtype above of.
-              inl (subst (AllByRecursion (FailsOrGoes setting.config deps (faults_by_ends query ends) true (map (queued_state config query) queue))) (sym (ends_so setting rtype above of.is_of)) (inl (refl, inl refl), tt));
+              inl (subst (AllByRecursion (FailsOrGoes setting.config deps (faults_by_ends query ends rtype) true (map (queued_state config query) queue))) (sym (ends_so setting rtype above of.is_of)) (inl (refl, inl refl), tt));
           leads = λ one has. inl has;
           told = told;
-          shown = λ fault has. inl has;
+          shown = λ rtype fault has. inl has;
         }
       where
         ends_so : (setting : Setting) (rtype : RrType) (above : ℕ) → IsSettingOf config deps setting
@@ -89,40 +101,61 @@ module _ (config : Config) (deps : Deps) (query : Labels) where
         ends_so setting rtype above of = outside_ends config query server so setting rtype above of.config_is
 
         still : (rtype : RrType) (outcome : Option Leaf) → IsOutcomeOf ends rtype outcome → IsOutcomeOf (record ends { fails = true }) rtype outcome
-        still rtype None is = refl
-        still rtype (Some leaf) is = is
+        still rtype outcome (inl fails) = inl (fails.0, refl)
+        still rtype outcome (inr told) = inr told
 
         told : (rtype : RrType) (outcome : Option Leaf) → IsOutcomeOf (record ends { fails = true }) rtype outcome → IsOutcomeOf ends rtype outcome
             ⊎ ((setting : Setting) (above : ℕ) → IsSettingFor config deps (record ends { fails = true }) setting
             → EndsWith setting rtype (state_at config query server above) outcome)
-        told rtype (Some leaf) is = inl is
-        told rtype None is = inr (λ setting above of.
-            ends_by_branch setting rtype (state_at config query server above) None Outside None
-            (subst (λ (all : List Branch). Contains all (End None Outside)) (sym (ends_so setting rtype above of.is_of)) (has_first (End None Outside) [])) refl)
+        told rtype outcome (inr before) = inl (inr before)
+        told rtype outcome (inl fails) = inr (λ setting above of.
+            subst (EndsWith setting rtype (state_at config query server above)) (sym fails.0) (ends_by_branch setting rtype (state_at config query server above) None Outside None
+            (subst (λ (all : List Branch). Contains all (End None Outside)) (sym (ends_so setting rtype above of.is_of)) (has_first (End None Outside) [])) refl))
 
     -- walks pass a server that answers as those before, or is the first that answers
-    pub answer_passes : (answering : AnswerOwners) (rewrites : ℕ) (none_below : Bool) (after : StraightEnds) → AnswersSo config query server answering rewrites
-        → AnswerIsPut ends answering rewrites none_below after → PassesServer config deps query server queue ends queue after
-    answer_passes answering rewrites none_below after so put =
+    pub answer_passes : (answering : AnswerOwners) (rewrites : ℕ) (none_below : Bool) (told : Told) (after : StraightEnds) → AnswersSo config query server told answering rewrites
+        → AnswerIsPut ends answering rewrites none_below told after → PassesServer config deps query server queue ends queue after
+    answer_passes answering rewrites none_below told after so put =
         record {
           extends = ([], sym (append-nil queue));
           still = put.still;
           above = subst (AreAbove query) (sym put.same_faulty);
           steps = λ setting rtype above of.
-              let (behind, few, along) = so setting rtype above of.is_of.config_is (omega (arith, put.behind, of.rewrites)) in
-              inr (behind, leaf_of answering rtype, omega (arith, few, put.behind), answers_told answering rtype, put.there rtype, along);
+              let (leaf, behind, outcome, few, along) = so.answers setting rtype above (may setting of) in
+              inr (
+                behind,
+                leaf,
+                omega (arith, few, put.behind),
+                inr (put.there rtype ∙ ap (λ (o : Option Leaf). Some o) (sym outcome)),
+                along_more setting (told_with told rtype) (faults_by_ends query after rtype) (told_then query ends answering rewrites none_below told after put rtype)
+                    rtype leaf (state_at config query server above) behind along,
+              );
           leads = λ one has. inl has;
-          told = λ rtype outcome is. told rtype outcome (put.only rtype outcome is);
-          shown = λ fault has. inl (subst (λ (all : List Faulty). Contains (faults_at query all) fault) put.same_faulty has);
+          told = λ rtype outcome is. ends_so rtype outcome (put.only rtype outcome is);
+          shown = λ rtype fault has. shown rtype fault (told_before query ends answering rewrites none_below told after put rtype fault has);
         }
       where
-        told : (rtype : RrType) (outcome : Option Leaf) → IsOutcomeOf ends rtype outcome ⊎ (outcome ≡ Some (leaf_of answering rtype)) → IsOutcomeOf ends rtype outcome
+        may : (setting : Setting) → IsSettingFor config deps after setting → MayRewrite config rewrites told.aliases setting
+        may setting of =
+            record {
+              config_is = of.is_of.config_is;
+              enough = omega (arith, put.behind, of.rewrites);
+              limits = limits_put setting.rewrites ends.alias_faults told.aliases after.alias_faults put.alias_faults of.limits;
+            }
+
+        shown : (rtype : RrType) (fault : Fault) → Contains (faults_by_ends query ends rtype) fault ⊎ Contains (told_with told rtype) fault
+            → Contains (faults_by_ends query ends rtype) fault ⊎ ((setting : Setting) (above : ℕ) → IsSettingFor config deps after setting
+            → StateShows setting deps rtype (state_at config query server above) fault)
+        shown rtype fault (inl before) = inl before
+        shown rtype fault (inr has) = inr (λ setting above of. inr (so.shows setting rtype above (may setting of) fault has))
+
+        ends_so : (rtype : RrType) (outcome : Option Leaf) → IsOutcomeOf ends rtype outcome ⊎ (outcome ≡ outcome_with answering rtype) → IsOutcomeOf ends rtype outcome
             ⊎ ((setting : Setting) (above : ℕ) → IsSettingFor config deps after setting → EndsWith setting rtype (state_at config query server above) outcome)
-        told rtype outcome (inl before) = inl before
-        told rtype outcome (inr same) = inr (λ setting above of.
-            let (behind, few, along) = so setting rtype above of.is_of.config_is (omega (arith, put.behind, of.rewrites)) in
-            subst (EndsWith setting rtype (state_at config query server above)) (outcome_told answering rtype ∙ sym same)
-            (ends_along setting rtype (leaf_of answering rtype) (state_at config query server above) behind along))
+        ends_so rtype outcome (inl before) = inl before
+        ends_so rtype outcome (inr same) = inr (λ setting above of.
+            let (leaf, behind, told_leaf, few, along) = so.answers setting rtype above (may setting of) in
+            subst (EndsWith setting rtype (state_at config query server above)) (told_leaf ∙ sym same)
+            (ends_along setting (told_with told rtype) rtype leaf (state_at config query server above) behind along))
 
     -- walks pass a server whose zone refers the name
     pub referral_passes : (tree : Bor ZoneTree) (cut : ℕ) (after : List Queued) (fails : Bool) (faulty : Vec Faulty Global) → IsReply config server query (reply.Refers tree cut)
@@ -132,15 +165,21 @@ module _ (config : Config) (deps : Deps) (query : Labels) where
     referral_passes tree cut after fails faulty so on =
         record {
           extends = on.extends;
-          still = record { rewrites = omega arith; faulty = (on.keeps.0, on.keeps.1); outcomes = still };
+          still = record { rewrites = omega arith; fails = on.still; faulty = (on.keeps.0, on.keeps.1); blackholes = ([], refl); alias_faults = ([], refl); outcomes = still };
           above = λ above.
               subst (AreAbove query) (sym on.keeps.1) (all_append (λ (one : Faulty). one.cut ≤ length query) ends.faulty.items on.keeps.0 above on.keeps.2);
           steps = λ setting rtype above of.
-              inl (subst (AllByRecursion (FailsOrGoes setting.config deps (faults_at query faulty.items) fails (map (queued_state config query) after))) (sym (refers setting rtype above of.is_of))
-              (on.each setting above of.is_of));
+              inl (subst (AllByRecursion (FailsOrGoes setting.config deps (told_with (told_of ends) rtype ++ faults_at query faulty.items) fails (map (queued_state config query) after)))
+              (sym (refers setting rtype above of.is_of))
+              (all_so (FailsOrGoes setting.config deps (faults_at query faulty.items) fails (map (queued_state config query) after))
+              (FailsOrGoes setting.config deps (told_with (told_of ends) rtype ++ faults_at query faulty.items) fails (map (queued_state config query) after)) (branches setting above)
+              (fails_or_goes_still setting.config deps (faults_at query faulty.items) (told_with (told_of ends) rtype ++ faults_at query faulty.items)
+              (Contains-append_right (told_with (told_of ends) rtype) (faults_at query faulty.items)) fails fails (λ is. is) (map (queued_state config query) after)
+              (map (queued_state config query) after) (λ state has. has))
+              (on.each setting above of.is_of)));
           leads = λ one has. leads one (on.leads one has);
           told = told;
-          shown = λ fault has. shown fault (on.shown fault has);
+          shown = λ rtype fault has. shown rtype fault (Contains-append_cases (told_with (told_of ends) rtype) (faults_at query faulty.items) fault has);
         }
       where
         branches : Setting → ℕ → List Branch
@@ -150,17 +189,22 @@ module _ (config : Config) (deps : Deps) (query : Labels) where
         refers setting rtype above of = refers_to config query server tree cut so setting rtype above of.config_is
 
         still : (rtype : RrType) (outcome : Option Leaf) → IsOutcomeOf ends rtype outcome → IsOutcomeOf (record ends { fails = fails; faulty = faulty }) rtype outcome
-        still rtype None is = on.still is
-        still rtype (Some leaf) is = is
+        still rtype outcome (inl fail) = inl (fail.0, on.still fail.1)
+        still rtype outcome (inr told) = inr told
 
-        shown : (fault : Fault) → Contains (faults_by_ends query ends) fault ⊎ ((setting : Setting) (above : ℕ) → IsSettingOf config deps setting
-            → (branch : Branch) × Contains (branches setting above) branch × BranchShows setting.config deps branch fault)
-            → Contains (faults_by_ends query ends) fault ⊎ ((setting : Setting) (rtype : RrType) (above : ℕ) → IsSettingOf config deps setting
-            → (branch : Branch) × Contains (next setting rtype (state_at config query server above)) branch × BranchShows setting.config deps branch fault)
-        shown fault (inl before) = inl before
-        shown fault (inr by) = inr (λ setting rtype above of.
-            let (branch, has, is) = by setting above of in
-            (branch, subst (λ (all : List Branch). Contains all branch) (sym (refers setting rtype above of)) has, is))
+        shown : (rtype : RrType) (fault : Fault) → Contains (told_with (told_of ends) rtype) fault ⊎ Contains (faults_at query faulty.items) fault
+            → Contains (faults_by_ends query ends rtype) fault ⊎ ((setting : Setting) (above : ℕ) → IsSettingFor config deps (record ends { fails = fails; faulty = faulty }) setting
+            → StateShows setting deps rtype (state_at config query server above) fault)
+        shown rtype fault (inl told) = inl (Contains-append_left (told_with (told_of ends) rtype) (faults_at query ends.faulty.items) fault told)
+        shown rtype fault (inr has) = by (on.shown fault has) where
+          by : Contains (faults_at query ends.faulty.items) fault ⊎ ((setting : Setting) (above : ℕ) → IsSettingOf config deps setting
+              → (branch : Branch) × Contains (branches setting above) branch × BranchShows setting.config deps branch fault)
+              → Contains (faults_by_ends query ends rtype) fault ⊎ ((setting : Setting) (above : ℕ) → IsSettingFor config deps (record ends { fails = fails; faulty = faulty }) setting
+              → StateShows setting deps rtype (state_at config query server above) fault)
+          by (inl before) = inl (Contains-append_right (told_with (told_of ends) rtype) (faults_at query ends.faulty.items) fault before)
+          by (inr some) = inr (λ setting above of.
+              let (branch, is_branch, is) = some setting above of.is_of in
+              inl (branch, subst (λ (all : List Branch). Contains all branch) (sym (refers setting rtype above of.is_of)) is_branch, is))
 
         leads : (one : Queued) → Contains queue one ⊎ ((setting : Setting) (above : ℕ) → IsSettingOf config deps setting
             → (hop : Hop) × Contains (branches setting above) (Go hop (queued_state config query one)))
@@ -174,18 +218,18 @@ module _ (config : Config) (deps : Deps) (query : Labels) where
         told : (rtype : RrType) (outcome : Option Leaf) → IsOutcomeOf (record ends { fails = fails; faulty = faulty }) rtype outcome → IsOutcomeOf ends rtype outcome
             ⊎ ((setting : Setting) (above : ℕ) → IsSettingFor config deps (record ends { fails = fails; faulty = faulty }) setting
             → EndsWith setting rtype (state_at config query server above) outcome)
-        told rtype (Some leaf) is = inl is
-        told rtype None is = by (on.told is) where
+        told rtype outcome (inr before) = inl (inr before)
+        told rtype outcome (inl fail) = by (on.told fail.1) where
           by : (ends.fails ≡ true) ⊎ ((setting : Setting) (above : ℕ) → IsSettingOf config deps setting
               → (hop : Option Hop) × (leaf : Leaf) × Contains (branches setting above) (End hop leaf) × (outcome_of leaf ≡ None))
-              → (ends.fails ≡ true)
+              → IsOutcomeOf ends rtype outcome
               ⊎ ((setting : Setting) (above : ℕ) → IsSettingFor config deps (record ends { fails = fails; faulty = faulty }) setting
-              → EndsWith setting rtype (state_at config query server above) None)
-          by (inl before) = inl before
+              → EndsWith setting rtype (state_at config query server above) outcome)
+          by (inl before) = inl (inl (fail.0, before))
           by (inr end) = inr (λ setting above of.
               let (hop, leaf, has, none) = end setting above of.is_of in
-              ends_by_branch setting rtype (state_at config query server above) hop leaf None
-              (subst (λ (all : List Branch). Contains all (End hop leaf)) (sym (refers setting rtype above of.is_of)) has) none)
+              subst (EndsWith setting rtype (state_at config query server above)) (sym fail.0) (ends_by_branch setting rtype (state_at config query server above) hop leaf None
+              (subst (λ (all : List Branch). Contains all (End hop leaf)) (sym (refers setting rtype above of.is_of)) has) none))
 
   -- ---- those that are passed
 
@@ -200,15 +244,19 @@ module _ (config : Config) (deps : Deps) (query : Labels) where
             (subst (λ (c : Config). Contains (start c query) (queued_state config query one)) (sym of.config_is) (so.only one has));
         steps = λ setting rtype of. tt;
         told = told;
-        shown = λ setting rtype fault of has. absurd (none_in_nil fault (subst (λ (all : List Faulty). Contains (faults_at query all) fault) none has));
+        shown = λ setting rtype fault of has. absurd (none_in_nil fault (subst (λ (all : List Fault). Contains all fault) (nothing_told rtype) has));
         above = subst (AreAbove query) (sym none) tt;
       }
     where
+      nothing_told : (rtype : RrType) → faults_by_ends query (unanswered fails faulty) rtype ≡ []
+      nothing_told rtype = ap (λ (told : List Fault). told ++ faults_at query faulty.items) (untold_with rtype) ∙ ap (λ (all : List Faulty). faults_at query all) none
+
       told : (setting : Setting) (rtype : RrType) (outcome : Option Leaf) → IsSettingFor config deps (unanswered fails faulty) setting → IsOutcomeOf (unanswered fails faulty) rtype outcome
           → HasOutcome setting query rtype outcome
-      told setting rtype (Some leaf) of is = cc
-      told setting rtype None of is =
-          let (top, among, none) = so.told is in
+      told setting rtype outcome of (inr answered) = cc
+      told setting rtype outcome of (inl is) =
+          let (top, among, none) = so.told is.1 in
+          subst (HasOutcome setting query rtype) (sym is.0) (
           comes_to_end setting query rtype (state_at config query top 0)
           (comes_first setting query rtype (state_at config query top 0)
           (subst (λ (c : Config). Contains (start c query) (state_at config query top 0)) (sym of.is_of.config_is)
@@ -216,7 +264,7 @@ module _ (config : Config) (deps : Deps) (query : Labels) where
           None
           (ends_by_branch setting rtype (state_at config query top 0) None Outside None
           (subst (λ (all : List Branch). Contains all (End None Outside)) (sym (outside_ends config query top none setting rtype 0 of.is_of.config_is))
-          (has_first (End None Outside) [])) refl)
+          (has_first (End None Outside) [])) refl))
 
   -- a search still begins at a top server where more states are queued
   begun_still : (before after : List Queued) (fails_before fails : Bool) → AreAmong before after → (fails_before ≡ true → fails ≡ true) → (top : Labels)
@@ -230,17 +278,17 @@ module _ (config : Config) (deps : Deps) (query : Labels) where
       → HasWalked config deps query after (passed ++ item ∷ []) ends
   one_walked queue after passed ends_before ends item among so one =
       record {
-        begins = λ top has. begun_still queue after ends_before.fails ends.fails more (one.still.outcomes types.A None) top (so.begins top has);
+        begins = λ top has. begun_still queue after ends_before.fails ends.fails more one.still.fails top (so.begins top has);
         comes = λ setting rtype of other has. comes setting rtype of other (one.leads other has);
         steps = λ setting rtype of.
-            subst (AllByRecursion (PassesState setting deps (faults_by_ends query ends) ends rtype (map (queued_state config query) after))) (sym (map-append (queued_state config query) passed (item ∷ [])))
-            (all_push (PassesState setting deps (faults_by_ends query ends) ends rtype (map (queued_state config query) after)) (map (queued_state config query) passed) (queued_state config query item)
-            (all_so (PassesState setting deps (faults_by_ends query ends_before) ends_before rtype (map (queued_state config query) queue)) (PassesState setting deps (faults_by_ends query ends) ends rtype (map (queued_state config query) after))
+            subst (AllByRecursion (PassesState setting deps (faults_by_ends query ends rtype) ends rtype (map (queued_state config query) after))) (sym (map-append (queued_state config query) passed (item ∷ [])))
+            (all_push (PassesState setting deps (faults_by_ends query ends rtype) ends rtype (map (queued_state config query) after)) (map (queued_state config query) passed) (queued_state config query item)
+            (all_so (PassesState setting deps (faults_by_ends query ends_before rtype) ends_before rtype (map (queued_state config query) queue)) (PassesState setting deps (faults_by_ends query ends rtype) ends rtype (map (queued_state config query) after))
             (map (queued_state config query) passed) (steps_still setting queue after more ends_before ends one.still rtype)
             (so.steps setting rtype (setting_before ends_before ends one.still setting of)))
             (one.steps setting rtype item.cut of));
         told = λ setting rtype outcome of is. told setting rtype outcome of (one.told rtype outcome is);
-        shown = λ setting rtype fault of has. shown setting rtype fault of (one.shown fault has);
+        shown = λ setting rtype fault of has. shown setting rtype fault of (one.shown rtype fault has);
         above = one.above so.above;
       }
     where
@@ -255,14 +303,15 @@ module _ (config : Config) (deps : Deps) (query : Labels) where
       comes setting rtype of other (inr leads) =
           comes_on setting query rtype (queued_state config query item) (so.comes setting rtype of item among) (queued_state config query other) (leads setting rtype item.cut of)
 
-      shown : (setting : Setting) (rtype : RrType) (fault : Fault) → IsSettingOf config deps setting
-          → Contains (faults_by_ends query ends_before) fault ⊎ ((setting : Setting) (rtype : RrType) (above : ℕ) → IsSettingOf config deps setting
-          → (branch : Branch) × Contains (next setting rtype (state_at config query item.server.now above)) branch × BranchShows setting.config deps branch fault)
+      shown : (setting : Setting) (rtype : RrType) (fault : Fault) → IsSettingFor config deps ends setting
+          → Contains (faults_by_ends query ends_before rtype) fault ⊎ ((setting : Setting) (above : ℕ) → IsSettingFor config deps ends setting
+          → StateShows setting deps rtype (state_at config query item.server.now above) fault)
           → Shows (with_lists setting deps.least deps.greatest) query rtype fault
-      shown setting rtype fault of (inl before) = so.shown setting rtype fault of before
-      shown setting rtype fault of (inr by) =
-          let (branch, has, shows) = by setting rtype item.cut of in
-          by_branch setting deps query rtype (queued_state config query item) (so.comes setting rtype of item among) branch fault has shows
+      shown setting rtype fault of (inl before) = so.shown setting rtype fault (setting_before ends_before ends one.still setting of) before
+      shown setting rtype fault of (inr state_shows) = by (state_shows setting item.cut of) where
+        by : StateShows setting deps rtype (queued_state config query item) fault → Shows (with_lists setting deps.least deps.greatest) query rtype fault
+        by (inl (branch, has, shows)) = by_branch setting deps query rtype (queued_state config query item) (so.comes setting rtype of.is_of item among) branch fault has shows
+        by (inr ends_so) = comes_to_fault setting query rtype (queued_state config query item) (so.comes setting rtype of.is_of item among) deps fault ends_so
 
       told : (setting : Setting) (rtype : RrType) (outcome : Option Leaf) → IsSettingFor config deps ends setting
           → IsOutcomeOf ends_before rtype outcome ⊎ ((setting : Setting) (above : ℕ) → IsSettingFor config deps ends setting
@@ -280,8 +329,8 @@ module _ (config : Config) (deps : Deps) (query : Labels) where
         begins = λ top has. begun_still queue other ends.fails ends.fails more (λ is. is) top (so.begins top has);
         comes = λ setting rtype of one has. so.comes setting rtype of one (back one has);
         steps = λ setting rtype of.
-            all_so (PassesState setting deps (faults_by_ends query ends) ends rtype (map (queued_state config query) queue)) (PassesState setting deps (faults_by_ends query ends) ends rtype (map (queued_state config query) other))
-            (map (queued_state config query) passed) (steps_still setting queue other more ends ends (record { rewrites = omega arith; faulty = ([], sym (append-nil ends.faulty.items)); outcomes = λ rtype outcome is. is }) rtype)
+            all_so (PassesState setting deps (faults_by_ends query ends rtype) ends rtype (map (queued_state config query) queue)) (PassesState setting deps (faults_by_ends query ends rtype) ends rtype (map (queued_state config query) other))
+            (map (queued_state config query) passed) (steps_still setting queue other more ends ends (record { rewrites = omega arith; fails = λ is. is; faulty = ([], sym (append-nil ends.faulty.items)); blackholes = ([], refl); alias_faults = ([], refl); outcomes = λ rtype outcome is. is }) rtype)
             (so.steps setting rtype of);
         told = so.told;
         shown = so.shown;
@@ -289,34 +338,28 @@ module _ (config : Config) (deps : Deps) (query : Labels) where
       }
 
   -- and so it has where the same referrals are told to show faults
-  pub same_told : (queue passed : List Queued) (ends : StraightEnds) (faulty : Vec Faulty Global) → faulty.items ≡ ends.faulty.items
+  pub same_faulty_told : (queue passed : List Queued) (ends : StraightEnds) (faulty : Vec Faulty Global) → faulty.items ≡ ends.faulty.items
       → HasWalked config deps query queue passed ends → HasWalked config deps query queue passed (record ends { faulty = faulty })
-  same_told queue passed ends faulty same so =
+  same_faulty_told queue passed ends faulty same so =
       record {
         begins = so.begins;
         comes = so.comes;
         steps = λ setting rtype of.
-            all_so (PassesState setting deps (faults_by_ends query ends) ends rtype (map (queued_state config query) queue))
-            (PassesState setting deps (faults_by_ends query after) after rtype (map (queued_state config query) queue)) (map (queued_state config query) passed)
+            all_so (PassesState setting deps (faults_by_ends query ends rtype) ends rtype (map (queued_state config query) queue))
+            (PassesState setting deps (faults_by_ends query after rtype) after rtype (map (queued_state config query) queue)) (map (queued_state config query) passed)
             (steps_still setting queue queue (λ state has. has) ends after still rtype) (so.steps setting rtype (setting_before ends after still setting of));
-        told = λ setting rtype outcome of is. so.told setting rtype outcome (setting_before ends after still setting of) (back rtype outcome is);
-        shown = λ setting rtype fault of has. so.shown setting rtype fault of (subst (λ (all : List Faulty). Contains (faults_at query all) fault) same has);
+        told = λ setting rtype outcome of is. so.told setting rtype outcome (setting_before ends after still setting of) is;
+        shown = λ setting rtype fault of has.
+            so.shown setting rtype fault (setting_before ends after still setting of)
+            (subst (λ (all : List Faulty). Contains (told_with (told_of ends) rtype ++ faults_at query all) fault) same has);
         above = subst (AreAbove query) (sym same) so.above;
       }
     where
       after : StraightEnds
       after = record ends { faulty = faulty }
 
-      on : (rtype : RrType) (outcome : Option Leaf) → IsOutcomeOf ends rtype outcome → IsOutcomeOf after rtype outcome
-      on rtype None is = is
-      on rtype (Some leaf) is = is
-
-      back : (rtype : RrType) (outcome : Option Leaf) → IsOutcomeOf after rtype outcome → IsOutcomeOf ends rtype outcome
-      back rtype None is = is
-      back rtype (Some leaf) is = is
-
       still : KeepsOutcomes ends after
-      still = record { rewrites = omega arith; faulty = ([], same ∙ sym (append-nil ends.faulty.items)); outcomes = on }
+      still = record { rewrites = omega arith; fails = λ is. is; faulty = ([], same ∙ sym (append-nil ends.faulty.items)); blackholes = ([], refl); alias_faults = ([], refl); outcomes = λ rtype outcome is. is }
 
   -- one queued state more is passed if walks pass its server
   pub one_passed : (queue after : List Queued) (at : ℕ) (ends_before ends : StraightEnds) (item : Queued) → at < length queue → item ≡ get_or queue at item
@@ -350,73 +393,77 @@ module _ (config : Config) (deps : Deps) (query : Labels) where
           (slice_get_read queue (length queue) at item refl within is) refers
 
   module _ (queue : List Queued) (at : ℕ) (ends : StraightEnds) (so : HasPassed config deps query queue at ends) (all : length queue ≤ at) (setting : Setting)
-      (of : IsSettingOf config deps setting) (enough : ends.rewrites ≤ setting.rewrites) (rtype : RrType) where
+      (of : IsSettingOf config deps setting) (enough : ends.rewrites ≤ setting.rewrites) (limits : AllByRecursion (HasLimit setting.rewrites) ends.alias_faults) (rtype : RrType) where
     abbrev queued : List State
     queued = map (queued_state config query) queue
 
-    passes : AllByRecursion (PassesState setting deps (faults_by_ends query ends) ends rtype queued) queued
+    passes : AllByRecursion (PassesState setting deps (faults_by_ends query ends rtype) ends rtype queued) queued
     passes =
-        subst (λ (passed : List Queued). AllByRecursion (PassesState setting deps (faults_by_ends query ends) ends rtype queued) (map (queued_state config query) passed))
-        (take_all at queue all) (so.walked.steps setting rtype (record { is_of = of; rewrites = enough }))
+        subst (λ (passed : List Queued). AllByRecursion (PassesState setting deps (faults_by_ends query ends rtype) ends rtype queued) (map (queued_state config query) passed))
+        (take_all at queue all) (so.walked.steps setting rtype (record { is_of = of; rewrites = enough; limits = limits }))
 
     -- the queued states with those behind them, and the states at all top servers
     abbrev walked : List State
-    walked = with_behind setting deps (faults_by_ends query ends) ends rtype queued queued passes
+    walked = with_behind setting deps (faults_by_ends query ends rtype) ends rtype queued queued passes
 
     abbrev reached : List State
     reached = walked ++ start config query
 
-    walk_on : (state : State) → Contains walked state → StepsStraight setting deps (faults_by_ends query ends) ends rtype reached state
+    walk_on : (state : State) → Contains walked state → StepsStraight setting deps (faults_by_ends query ends rtype) ends rtype reached state
     walk_on state has =
-        each_along (StepsStraight setting deps (faults_by_ends query ends) ends rtype reached) walked
-        (all_step setting deps (faults_by_ends query ends) ends rtype queued reached
-        (λ one among. Contains-append_left walked (start config query) one (still_there setting deps (faults_by_ends query ends) ends rtype queued queued passes one among))
+        each_along (StepsStraight setting deps (faults_by_ends query ends rtype) ends rtype reached) walked
+        (all_step setting deps (faults_by_ends query ends rtype) ends rtype queued reached
+        (λ one among. Contains-append_left walked (start config query) one (still_there setting deps (faults_by_ends query ends rtype) ends rtype queued queued passes one among))
         queued passes (λ one among. Contains-append_left walked (start config query) one among))
         state has
 
-    walk_from : (top : Labels) → IsBegun config query queue ends.fails top → StepsStraight setting deps (faults_by_ends query ends) ends rtype reached (state_at config query top 0)
-    walk_from top (inl has) = walk_on (state_at config query top 0) (still_there setting deps (faults_by_ends query ends) ends rtype queued queued passes (state_at config query top 0) has)
+    walk_from : (top : Labels) → IsBegun config query queue ends.fails top → StepsStraight setting deps (faults_by_ends query ends rtype) ends rtype reached (state_at config query top 0)
+    walk_from top (inl has) = walk_on (state_at config query top 0) (still_there setting deps (faults_by_ends query ends rtype) ends rtype queued queued passes (state_at config query top 0) has)
     walk_from top (inr (fails, none)) =
-        subst (AllByRecursion (BranchStraight setting deps (faults_by_ends query ends) ends rtype reached (state_at config query top 0)))
+        subst (AllByRecursion (BranchStraight setting deps (faults_by_ends query ends rtype) ends rtype reached (state_at config query top 0)))
         (sym (outside_ends config query top none setting rtype 0 of.config_is)) (inl (inl (fails, inl refl)), tt)
 
-    each_walks : (state : State) → Contains reached state → StepsStraight setting deps (faults_by_ends query ends) ends rtype reached state
+    each_walks : (state : State) → Contains reached state → StepsStraight setting deps (faults_by_ends query ends rtype) ends rtype reached state
     each_walks state has = by (Contains-append_cases walked (start config query) state has) where
-      by : Contains walked state ⊎ Contains (start config query) state → StepsStraight setting deps (faults_by_ends query ends) ends rtype reached state
+      by : Contains walked state ⊎ Contains (start config query) state → StepsStraight setting deps (faults_by_ends query ends rtype) ends rtype reached state
       by (inl among) = walk_on state among
       by (inr first) =
           let (top, has_top, is) = from_map (arrived config query true 0 None) config.tops state first in
-          subst (StepsStraight setting deps (faults_by_ends query ends) ends rtype reached) is (walk_from top (so.walked.begins top has_top))
+          subst (StepsStraight setting deps (faults_by_ends query ends rtype) ends rtype reached) is (walk_from top (so.walked.begins top has_top))
 
     few_reached : (most : ℕ) → length queue * (ends.rewrites + 1) ≤ most → length reached ≤ most + length config.tops
     few_reached most few =
-        let in_all : length walked ≤ length queued * (ends.rewrites + 1) = few_in_all setting deps (faults_by_ends query ends) ends rtype queued (ends.rewrites + 1) (omega arith) queued passes in
+        let in_all : length walked ≤ length queued * (ends.rewrites + 1) = few_in_all setting deps (faults_by_ends query ends rtype) ends rtype queued (ends.rewrites + 1) (omega arith) queued passes in
         let as_many : length queued * (ends.rewrites + 1) ≡ length queue * (ends.rewrites + 1) =
         ap (λ (n : ℕ). n * (ends.rewrites + 1)) (length-map queue (queued_state config query)) in
         omega (arith, few, length-append walked (start config query), length-map config.tops (arrived config query true 0 None))
 
-  -- if all queued states are passed, the query goes straight to the ends, over so many states besides as there are top
-  -- servers
-  pub all_passed : (queue : List Queued) (at most : ℕ) (ends : StraightEnds) → HasPassed config deps query queue at ends → length queue ≤ at
-      → length queue * (ends.rewrites + 1) ≤ most → GoesStraightIn config deps ends.rewrites (most + length config.tops) query ends
-  all_passed queue at most ends so all few setting of enough rtype =
+  -- if all queued states are passed, the query goes straight to the ends where walks may be rewritten just so often and the
+  -- limits are those that are told, over so many states besides as there are top servers
+  pub all_passed : (queue : List Queued) (at rewrites most : ℕ) (ends : StraightEnds) → HasPassed config deps query queue at ends → length queue ≤ at
+      → ends.rewrites ≤ rewrites → AllByRecursion (HasLimit rewrites) ends.alias_faults
+      → length queue * (ends.rewrites + 1) ≤ most → GoesStraightIn config deps rewrites (most + length config.tops) query ends
+  all_passed queue at rewrites most ends so all fewer told few setting of just rtype =
+      let enough : ends.rewrites ≤ setting.rewrites = omega (arith, just, fewer) in
+      let limits : AllByRecursion (HasLimit setting.rewrites) ends.alias_faults = subst (λ (n : ℕ). AllByRecursion (HasLimit n) ends.alias_faults) (sym just) told in
       record {
-        states = reached queue at ends so all setting of enough rtype;
-        few = few_reached queue at ends so all setting of enough rtype most few;
+        states = reached queue at ends so all setting of enough limits rtype;
+        few = few_reached queue at ends so all setting of enough limits rtype most few;
         begins = λ state has.
-            Contains-append_right (walked queue at ends so all setting of enough rtype) (start config query) state
+            Contains-append_right (walked queue at ends so all setting of enough limits rtype) (start config query) state
             (subst (λ (c : Config). Contains (start c query) state) of.config_is has);
-        steps = each_walks queue at ends so all setting of enough rtype;
-        told = λ outcome is. so.walked.told setting rtype outcome (record { is_of = of; rewrites = enough }) is;
-        shown = λ fault has. so.walked.shown setting rtype fault of has;
+        steps = each_walks queue at ends so all setting of enough limits rtype;
+        told = λ outcome is. so.walked.told setting rtype outcome (record { is_of = of; rewrites = enough; limits = limits }) is;
+        shown = λ fault has. so.walked.shown setting rtype fault (record { is_of = of; rewrites = enough; limits = limits }) has;
         above = so.walked.above;
       }
 
   -- ends that are given only within the limits are ends to which the query goes straight
   pub given_within : (rewrites most all states : ℕ) (ends : StraightEnds) (given : Option StraightEnds) → IfSome given (λ found. found ≡ ends)
       → IfSome given (λ found. states * (ends.rewrites + 1) ≤ most) → IfSome given (λ found. ends.rewrites ≤ rewrites)
-      → (states * (ends.rewrites + 1) ≤ most → HoldsOfEachName config query (GoesStraightIn config deps ends.rewrites all) ends) → IfSome given (HoldsOfEachName config query (GoesStraightIn config deps rewrites all))
-  given_within rewrites most all states ends None same few fewer straight = tt
-  given_within rewrites most all states ends (Some found) same few fewer straight =
-      subst (HoldsOfEachName config query (GoesStraightIn config deps rewrites all)) (sym same)
-      (λ name given_for told setting of enough rtype. straight few name given_for told setting of (omega (arith, fewer, enough)) rtype)
+      → IfSome given (λ found. AllByRecursion (HasLimit rewrites) ends.alias_faults)
+      → (ends.rewrites ≤ rewrites → AllByRecursion (HasLimit rewrites) ends.alias_faults → states * (ends.rewrites + 1) ≤ most → HoldsOfEachName config query (GoesStraightIn config deps rewrites all) ends)
+      → IfSome given (HoldsOfEachName config query (GoesStraightIn config deps rewrites all))
+  given_within rewrites most all states ends None same few fewer limits straight = tt
+  given_within rewrites most all states ends (Some found) same few fewer limits straight =
+      subst (HoldsOfEachName config query (GoesStraightIn config deps rewrites all)) (sym same) (straight fewer limits few)

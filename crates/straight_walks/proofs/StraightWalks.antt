@@ -19,7 +19,7 @@ use Rattle.net_model.specs.declared.place.Place.{Place}
 use Rattle.net_model.specs.declared.walk.Hop.{Hop}
 use Rattle.net_model.specs.declared.walk.Hop.TheVariants.{Refer, Rewrite}
 use Rattle.net_model.specs.declared.walk.Leaf.{Leaf}
-use Rattle.net_model.specs.declared.walk.Leaf.TheVariants.{Answer, Lame, NoData, NxDomain, Outside, Unhosted}
+use Rattle.net_model.specs.declared.walk.Leaf.TheVariants.{Answer, Lame, Limit, NoData, NxDomain, Outside, Unhosted}
 use Rattle.net_model.specs.declared.walk.State.{State}
 use Rattle.net_model.specs.declared.walk.Walk.{Walk}
 use Rattle.net_model.proofs.Leads.{GoesOn, EndsBy, branch_taken, first_state}
@@ -27,6 +27,7 @@ use Rattle.net_model.proofs.WalkEnds.{item}
 use Rattle.walk_laws.specs.Outcome.{outcome_of}
 use Rattle.straight_walks.specs.Ends.{IsOutcomeOf}
 use Rattle.straight_walks.specs.Faulty.{HasReferralFaults}
+use Rattle.straight_walks.specs.Nowhere.{IsToldEnd}
 use Rattle.straight_walks.specs.Straight.{BranchStraight, GoesStraight, faults_by_ends}
 use Rattle.straight_walks.specs.declared.ends.StraightEnds.{StraightEnds}
 
@@ -35,36 +36,43 @@ abbrev pub IsToldHop : Config → Deps → List Fault → Hop → Type 0
 IsToldHop config deps told (Refer cut) = HasReferralFaults config deps told cut
 IsToldHop config deps told (Rewrite place by_dname to) = Unit {0}
 
--- no zone answers there and walks fail, or one answers what the ends have with the type
-abbrev pub EndsSo : StraightEnds → RrType → Leaf → Type 0
-EndsSo ends rtype Outside = ends.fails ≡ true
-EndsSo ends rtype (Unhosted ns) = ends.fails ≡ true
-EndsSo ends rtype (Lame ns) = ends.fails ≡ true
-EndsSo ends rtype leaf = (is_authoritative leaf ≡ true) × IsOutcomeOf ends rtype (Some leaf)
+-- no zone answers there and walks fail; or one answers what the ends have with the type; or walks fail at a limit that is
+-- told
+abbrev pub EndsSo : StraightEnds → RrType → List Fault → Leaf → Type 0
+EndsSo ends rtype told Outside = ends.fails ≡ true
+EndsSo ends rtype told (Unhosted ns) = ends.fails ≡ true
+EndsSo ends rtype told (Lame ns) = ends.fails ≡ true
+EndsSo ends rtype told (Limit place) = IsOutcomeOf ends rtype None × Contains told (faults.Limit place)
+EndsSo ends rtype told leaf = (is_authoritative leaf ≡ true) × IsOutcomeOf ends rtype (Some leaf)
+
+-- the name exists, or it is told that the last rewrite leads to one that doesn't
+abbrev IsToldNothing : List Fault → Option Place → Leaf → Type 0
+IsToldNothing told last leaf = leaf ≡ NxDomain → (place : Place) → last ≡ Some place → Contains told (faults.Blackhole place)
 
 -- an end at a server that doesn't serve the delegated zone is one behind a referral of which that is told
 abbrev IsToldLame : List Fault → Option Hop → Leaf → Type 0
 IsToldLame told hop leaf = (ns : Labels) → leaf ≡ Lame ns → (cut : Cut) × (hop ≡ Some (Refer cut)) × Contains told (faults.Lame cut)
 
 -- the branch of the state goes on by such a hop to one of the states, or ends so after such a hop or none; the name
--- exists where a rewrite led to the state
+-- exists where a rewrite led to the state, or that blackhole is told
 abbrev GoesSo : Config → Deps → List Fault → StraightEnds → RrType → List State → State → Branch → Type 0
 GoesSo config deps told ends rtype states state (Go hop to) = IsToldHop config deps told hop × Contains states to
 GoesSo config deps told ends rtype states state (End hop leaf) =
-    AllByRecursion (IsToldHop config deps told) (option_to_list hop) × EndsSo ends rtype leaf × (leaf ≡ NxDomain → state.last ≡ None) × IsToldLame told hop leaf
+    AllByRecursion (IsToldHop config deps told) (option_to_list hop) × EndsSo ends rtype told leaf × IsToldNothing told state.last leaf × IsToldLame told hop leaf
 
 -- The walk goes by hops that are told over some of the states, ends as the ends say, and a name to which it is rewritten
--- exists. If it ends at a server that doesn't serve the delegated zone, that is told of its last referral.
+-- exists, or that blackhole is told. If it ends at a server that doesn't serve the delegated zone, that is told of its last
+-- referral.
 pub record GoesStraightBy (config : Config) (deps : Deps) (told : List Fault) (ends : StraightEnds) (rtype : RrType) (states : List State) (walk : Walk) : Type 0 where
   pub among : AllByRecursion (Contains states) walk.states
   pub hops : AllByRecursion (IsToldHop config deps told) walk.hops
-  pub ends_so : EndsSo ends rtype walk.leaf
-  pub exists : (place : Place) → ShowsBlackhole walk place → ⊥
+  pub ends_so : EndsSo ends rtype told walk.leaf
+  pub exists : (place : Place) → ShowsBlackhole walk place → Contains told (faults.Blackhole place)
   pub lame : (ns : Labels) → walk.leaf ≡ Lame ns → (cut : Cut) × EndsBehind walk cut × Contains told (faults.Lame cut)
 
 -- ---- blackholes
 
--- a walk of one state shows none where its end doesn't
+-- a walk of one state shows one that is told where its end does
 one_state : (state last : State) (before : List State) → state ∷ [] ≡ before ++ last ∷ [] → state ≡ last
 one_state state last [] e = cc
 one_state state last (first ∷ before) e = absurd (none_more before (cc)) where
@@ -72,18 +80,13 @@ one_state state last (first ∷ before) e = absurd (none_more before (cc)) where
   none_more [] e = cc
   none_more (first ∷ before) e = cc
 
-end_exists : (state : State) (hops : List Hop) (leaf : Leaf) → (leaf ≡ NxDomain → state.last ≡ None) → (place : Place)
-    → ShowsBlackhole (record { states = state ∷ []; hops = hops; leaf = leaf }) place → ⊥
-end_exists state hops leaf exists place shows =
+end_exists : (told : List Fault) (state : State) (hops : List Hop) (leaf : Leaf) → IsToldNothing told state.last leaf → (place : Place)
+    → ShowsBlackhole (record { states = state ∷ []; hops = hops; leaf = leaf }) place → Contains told (faults.Blackhole place)
+end_exists told state hops leaf exists place shows =
     let same : state ≡ shows.rewritten.last = one_state state shows.rewritten.last shows.rewritten.before shows.rewritten.states in
-    let none : state.last ≡ None = exists shows.ends in
-    let some : shows.rewritten.last.last ≡ Some place = shows.rewritten.at_place in
-    absurd (by (sym none ∙ ap (λ (s : State). s.last) same ∙ some))
-  where
-    by : None ≡ Some place → ⊥
-    by e = cc
+    exists shows.ends place (ap (λ (s : State). s.last) same ∙ shows.rewritten.at_place)
 
--- and one that goes on shows none where the walk behind it doesn't
+-- and one that goes on shows what the walk behind it shows
 on_exists : (state : State) (hop : Hop) (later : Walk) (first : State) (rest : List State) → later.states ≡ first ∷ rest → (place : Place)
     → ShowsBlackhole (led_on state hop later) place → ShowsBlackhole later place
 on_exists state hop later first rest are place shows = by shows.rewritten.before shows.rewritten.states where
@@ -99,34 +102,37 @@ on_exists state hop later first rest are place shows = by shows.rewritten.before
 
 -- ---- walks
 
--- an end with this answer
-ends_answered : (ends : StraightEnds) (rtype : RrType) (leaf : Leaf) → is_authoritative leaf ≡ true → IsOutcomeOf ends rtype (Some leaf) → EndsSo ends rtype leaf
-ends_answered ends rtype (Answer rdata) is told = (is, told)
-ends_answered ends rtype NoData is told = (is, told)
-ends_answered ends rtype NxDomain is told = (is, told)
-ends_answered ends rtype leaf is told = cc
+-- an end of which the outcome is one of the ends', and which shows what is told
+ends_answered : (ends : StraightEnds) (rtype : RrType) (told : List Fault) (last : Option Place) (leaf : Leaf) → IsOutcomeOf ends rtype (outcome_of leaf) → IsToldEnd told last leaf
+    → EndsSo ends rtype told leaf × IsToldNothing told last leaf
+ends_answered ends rtype told last (Answer rdata) outcome shown = ((refl, outcome), λ is. absurd cc)
+ends_answered ends rtype told last NoData outcome shown = ((refl, outcome), λ is. absurd cc)
+ends_answered ends rtype told last NxDomain outcome shown = ((refl, outcome), λ is. shown)
+ends_answered ends rtype told last (Limit place) outcome shown = ((outcome, shown), λ is. absurd cc)
+ends_answered ends rtype told last leaf outcome shown = absurd (true≢false (sym shown))
 
 -- the outcome of a leaf in which walks to the ends end is one of the ends' outcomes
-pub end_told : (ends : StraightEnds) (rtype : RrType) (leaf : Leaf) → EndsSo ends rtype leaf → IsOutcomeOf ends rtype (outcome_of leaf)
-end_told ends rtype Outside so = so
-end_told ends rtype (Unhosted ns) so = so
-end_told ends rtype (Lame ns) so = so
-end_told ends rtype (Answer rdata) so = so.1
-end_told ends rtype NoData so = so.1
-end_told ends rtype NxDomain so = so.1
-end_told ends rtype leaf so = absurd (true≢false (sym so.0))
+pub end_told : (ends : StraightEnds) (rtype : RrType) (told : List Fault) (leaf : Leaf) → EndsSo ends rtype told leaf → IsOutcomeOf ends rtype (outcome_of leaf)
+end_told ends rtype told Outside so = inl (refl, so)
+end_told ends rtype told (Unhosted ns) so = inl (refl, so)
+end_told ends rtype told (Lame ns) so = inl (refl, so)
+end_told ends rtype told (Limit place) so = so.0
+end_told ends rtype told (Answer rdata) so = so.1
+end_told ends rtype told NoData so = so.1
+end_told ends rtype told NxDomain so = so.1
+end_told ends rtype told leaf so = absurd (true≢false (sym so.0))
 
 module _ (setting : Setting) (deps : Deps) (most : ℕ) (query : Labels) (ends : StraightEnds) (rtype : RrType) (straight : GoesStraight setting deps most query ends rtype) where
   -- a branch of one of the states
   abbrev BranchSo : State → Branch → Type 0
-  BranchSo state branch = GoesSo setting.config deps (faults_by_ends query ends) ends rtype straight.states state branch
+  BranchSo state branch = GoesSo setting.config deps (faults_by_ends query ends rtype) ends rtype straight.states state branch
 
   -- a walk from one of the states
   abbrev So : Walk → Type 0
-  So walk = GoesStraightBy setting.config deps (faults_by_ends query ends) ends rtype straight.states walk
+  So walk = GoesStraightBy setting.config deps (faults_by_ends query ends rtype) ends rtype straight.states walk
 
   -- where each branch of a state goes straight it goes so
-  branch_so : (state : State) (branch : Branch) → BranchStraight setting deps (faults_by_ends query ends) ends rtype straight.states state branch → BranchSo state branch
+  branch_so : (state : State) (branch : Branch) → BranchStraight setting deps (faults_by_ends query ends rtype) ends rtype straight.states state branch → BranchSo state branch
   branch_so state branch (inl (inl (fails, inl outside))) =
       subst (BranchSo state) (sym outside) (tt, fails, (λ is. absurd (apart is)), λ ns is. absurd (not_lame ns is))
     where
@@ -148,11 +154,13 @@ module _ (setting : Setting) (deps : Deps) (most : ℕ) (query : Labels) (ends :
     where
       apart : Lame cut.ns ≡ NxDomain → ⊥
       apart e = cc
-  branch_so state branch (inr (inl (leaf, is, told, exists, answers))) =
-      subst (BranchSo state) (sym answers) (tt, ends_answered ends rtype leaf is told, exists, λ ns lame. absurd (no_zone ns (sym is ∙ ap is_authoritative lame)))
+  branch_so state branch (inr (inl (leaf, told, shown, answers))) =
+      let so = ends_answered ends rtype (faults_by_ends query ends rtype) state.last leaf told shown in
+      subst (BranchSo state) (sym answers) (tt, so.0, so.1, λ ns lame. absurd (not_answered leaf shown ns lame))
     where
-      no_zone : (ns : Labels) → true ≡ is_authoritative (Lame ns) → ⊥
-      no_zone ns e = true≢false e
+      not_answered : (leaf : Leaf) → IsToldEnd (faults_by_ends query ends rtype) state.last leaf → (ns : Labels) → leaf ≡ Lame ns → ⊥
+      not_answered (Lame other) shown ns lame = true≢false (sym shown)
+      not_answered leaf shown ns lame = cc
   branch_so state branch (inl (inr (cut, to, told, goes, has))) = subst (BranchSo state) (sym goes) (told, has)
   branch_so state branch (inr (inr (place, by_dname, target, to, goes, has))) = subst (BranchSo state) (sym goes) (tt, has)
 
@@ -166,7 +174,7 @@ module _ (setting : Setting) (deps : Deps) (most : ℕ) (query : Labels) (ends :
       taken : (branch : Branch) → slice_get (next setting rtype state) number ≡ Some branch → BranchSo state branch
       taken branch is =
           item (BranchSo state) (next setting rtype state) number branch
-          (all_so (BranchStraight setting deps (faults_by_ends query ends) ends rtype straight.states state) (BranchSo state) (next setting rtype state) (branch_so state) (straight.steps state has)) is
+          (all_so (BranchStraight setting deps (faults_by_ends query ends rtype) ends rtype straight.states state) (BranchSo state) (next setting rtype state) (branch_so state) (straight.steps state has)) is
 
       by : GoesOn state (walk_from setting rtype numbers) (slice_get (next setting rtype state) number) walk
           ⊎ EndsBy state (slice_get (next setting rtype state) number) walk
@@ -192,7 +200,7 @@ module _ (setting : Setting) (deps : Deps) (most : ℕ) (query : Labels) (ends :
             among = (has, tt);
             hops = branch.0;
             ends_so = branch.1;
-            exists = end_exists state (option_to_list end.hop) end.leaf branch.2;
+            exists = end_exists (faults_by_ends query ends rtype) state (option_to_list end.hop) end.leaf branch.2;
             lame = λ ns is.
                 let (cut, behind, among) = branch.3 ns is in
                 (cut, ([], ap option_to_list behind), among);

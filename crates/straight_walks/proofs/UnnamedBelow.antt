@@ -1,5 +1,5 @@
 -- The query with an unnamed tail: no origin stands between, and a zone that has nothing there answers so.
-use Rattle.std.proofs.Common.{◌≡◌, ℕ, ◌<◌, Bool, true, false, cond, ◌&&◌, [], ◌∷◌, ◌++◌, length, Contains, Option, Some, None, Bor, refl, sym, ap, ◌∙◌, subst, inl, inr, true≢false, arith, append_assoc, append-nil, length-append, lt-ltb}
+use Rattle.std.proofs.Common.{◌≡◌, ℕ, ◌<◌, Bool, true, false, cond, ◌&&◌, List, [], ◌∷◌, ◌++◌, length, Contains, Option, Some, None, Bor, refl, sym, ap, ◌∙◌, subst, inl, inr, true≢false, arith, append_assoc, append-nil, length-append, lt-ltb}
 use Rattle.std.specs.Prelude.{◌⊎◌, is_some, nat_le, nat_lt, option_map, option_and_then}
 use Rattle.std.proofs.lemmas.Bool.{and_right}
 use Rattle.dns_data.specs.Label.{IsLabel}
@@ -7,6 +7,7 @@ use Rattle.dns_data.specs.Name.{Labels, is_prefix, name_eq}
 use Rattle.dns_data.specs.RrType.{type_eq}
 use Rattle.dns_data.specs.declared.rr_type.RrType.{RrType}
 use Rattle.dns_data.specs.declared.rr_type.RrType.TheVariants as types
+use Rattle.dns_data.proofs.Membership.{none_in_nil}
 use Rattle.dns_data.proofs.NameFronts.{Begins, is_prefix_told, two_fronts, is_prefix_tells}
 use Rattle.dns_data.proofs.Names.{name_eq_decides}
 use Rattle.dns_data.proofs.Searches.{find_none, find_some, found_there}
@@ -14,12 +15,12 @@ use Rattle.net_model.specs.Lookup.{ByCut, ByNothing, ByRecords, by_dname, closes
 use Rattle.net_model.specs.Nearest.{held_zone, nearest_of, server_named, zone_with_origin}
 use Rattle.net_model.specs.OpenTail.{open_decided, open_deciding, redirecting}
 use Rattle.net_model.specs.Prefix.{prefixes}
-use Rattle.net_model.specs.Step.{End}
 use Rattle.net_model.specs.Tails.{IsUnnamedTail}
 use Rattle.net_model.specs.Zone.{exists_in, owns}
 use Rattle.net_model.specs.declared.config.Config.{Config}
 use Rattle.net_model.specs.declared.config.Server.{Server}
 use Rattle.net_model.specs.declared.config.Zone.{Zone}
+use Rattle.net_model.specs.declared.fault.Fault.{Fault}
 use Rattle.net_model.specs.declared.walk.Leaf.{Leaf}
 use Rattle.net_model.specs.declared.walk.Leaf.TheVariants.{NxDomain}
 use Rattle.net_model.proofs.Descent.{shorter_passes}
@@ -29,11 +30,13 @@ use Rattle.net_model.proofs.Prefixes.{from_prefixes}
 use Rattle.walk_laws.proofs.WalksAlike.UnnamedTails.{far_names, nearest_with_tail, opens_in}
 use Rattle.zone_tree.specs.Tree.{ZoneTree}
 use Rattle.zone_tree.proofs.Prefixes.{longest_itself}
-use Rattle.straight_walks.specs.Answers.{AnswerOwners, leaf_of, owner_leaf}
-use Rattle.straight_walks.specs.Ends.{IsOutcomeOf}
+use Rattle.straight_walks.specs.Answers.{AnswerOwners, outcome_with, owner_leaf}
+use Rattle.straight_walks.specs.Ends.{IsOutcomeOf, told_by}
+use Rattle.straight_walks.specs.Nowhere.{Told, untold}
 use Rattle.straight_walks.specs.Searching.{AnswersNothingBelow, AnswersSo, AnswerIsPut, nothing_below, nothing_there, state_at}
 use Rattle.straight_walks.specs.Straight.{NoOriginBetween}
 use Rattle.straight_walks.specs.declared.ends.StraightEnds.{StraightEnds}
+use Rattle.straight_walks.proofs.AliasEnds.{none_led, untold_with}
 use Rattle.straight_walks.proofs.Replies.{nothing_answers}
 
 -- ---- no origin stands between
@@ -154,63 +157,77 @@ nothing_answered config query server tree nearest opens tail is zone =
 -- ---- the ends there
 
 -- with each type the answer is that there is no such name
-nothing_leaf : (answering : AnswerOwners) (rtype : RrType) → leaf_of (nothing_there answering) rtype ≡ NxDomain
+nothing_leaf : (answering : AnswerOwners) (rtype : RrType) → outcome_with (nothing_there answering) rtype ≡ Some NxDomain
 nothing_leaf answering rtype = by (type_eq rtype types.Cname) where
-  by : (b : Bool) → owner_leaf (cond b (nothing_there answering).own (nothing_there answering).last) rtype ≡ NxDomain
+  by : (b : Bool) → option_map (λ at. owner_leaf at rtype) (cond b (Some (nothing_there answering).own) (nothing_there answering).last) ≡ Some NxDomain
   by true = refl
   by false = refl
 
 -- walks of the query with an unnamed tail end at once at a server that answers that there is no such name
 pub nothing_so : (config : Config) (query server tail : Labels) (answering : AnswerOwners) → IsUnnamedTail config query tail → AnswersNothingBelow config query server
-    → AnswersSo config (query ++ tail) server (nothing_there answering) 0
-nothing_so config query server tail answering is so setting rtype above same enough = (
-  [],
-  omega arith,
-  (
-    so tail is answering.own.zone setting rtype (state_at config (query ++ tail) server above) same refl refl
-        ∙ ap (λ (leaf : Leaf). End None leaf ∷ []) (sym (nothing_leaf answering rtype)),
-    λ is. refl,
-  ),
-)
+    → AnswersSo config (query ++ tail) server untold (nothing_there answering) 0
+nothing_so config query server tail answering is so =
+    record {
+      answers = λ setting rtype above may. (
+        NxDomain,
+        [],
+        sym (nothing_leaf answering rtype),
+        omega arith,
+        (
+          so tail is answering.own.zone setting rtype (state_at config (query ++ tail) server above) may.config_is refl refl,
+          λ place led. absurd (none_led place led),
+        ),
+      );
+      shows = λ setting rtype above may fault has. absurd (none_in_nil fault (subst (λ (all : List Fault). Contains all fault) (untold_with rtype) has));
+    }
 
 -- where some server answers, an answer there is that there is no such name
-module _ (before after : StraightEnds) (answering : AnswerOwners) (rewrites : ℕ) (none_below : Bool) (put : AnswerIsPut before answering rewrites none_below after) (rtype : RrType) where
-  abbrev told : Option AnswerOwners → Option Leaf
-  told answer = option_map (λ (one : AnswerOwners). leaf_of one rtype) answer
+module _ (before after : StraightEnds) (answering : AnswerOwners) (rewrites : ℕ) (none_below : Bool) (told : Told)
+    (put : AnswerIsPut before answering rewrites none_below told after) (rtype : RrType) where
+  abbrev outcome_by : Option AnswerOwners → Option (Option Leaf)
+  outcome_by answer = option_map (λ (one : AnswerOwners). outcome_with one rtype) answer
 
-  only_nothing : (answer : Option AnswerOwners) (leaf : Leaf) → told (option_map nothing_there answer) ≡ Some leaf → leaf ≡ NxDomain
-  only_nothing None leaf e = cc
-  only_nothing (Some one) leaf e = let same : leaf_of (nothing_there one) rtype ≡ leaf = cc in sym same ∙ nothing_leaf one rtype
+  only_nothing : (answer : Option AnswerOwners) (outcome : Option Leaf) → outcome_by (option_map nothing_there answer) ≡ Some outcome → outcome ≡ Some NxDomain
+  only_nothing None outcome e = cc
+  only_nothing (Some one) outcome e = let same : outcome_with (nothing_there one) rtype ≡ outcome = cc in sym same ∙ nothing_leaf one rtype
 
-  some_nothing : (answer : Option AnswerOwners) (leaf : Leaf) → told answer ≡ Some leaf → told (option_map nothing_there answer) ≡ Some NxDomain
-  some_nothing None leaf e = cc
-  some_nothing (Some one) leaf e = ap (λ (leaf : Leaf). Some leaf) (nothing_leaf one rtype)
+  some_nothing : (answer : Option AnswerOwners) (outcome : Option Leaf) → outcome_by answer ≡ Some outcome → outcome_by (option_map nothing_there answer) ≡ Some (Some NxDomain)
+  some_nothing None outcome e = cc
+  some_nothing (Some one) outcome e = ap (λ (o : Option Leaf). Some o) (nothing_leaf one rtype)
 
-  there : IsOutcomeOf (nothing_below after) rtype (Some NxDomain)
-  there = some_nothing after.answer (leaf_of answering rtype) (put.there rtype)
+  there : told_by (nothing_below after) rtype ≡ Some (Some NxDomain)
+  there = some_nothing after.answer (outcome_with answering rtype) (put.there rtype)
 
   still : (outcome : Option Leaf) → IsOutcomeOf (nothing_below before) rtype outcome → IsOutcomeOf (nothing_below after) rtype outcome
-  still None is = put.still.outcomes rtype None is
-  still (Some leaf) is = there ∙ ap (λ (leaf : Leaf). Some leaf) (sym (only_nothing before.answer leaf is))
+  still outcome (inl fails) = inl (fails.0, put.still.fails fails.1)
+  still outcome (inr is) = inr (there ∙ ap (λ (o : Option Leaf). Some o) (sym (only_nothing before.answer outcome is)))
 
   only : (outcome : Option Leaf) → IsOutcomeOf (nothing_below after) rtype outcome
-      → IsOutcomeOf (nothing_below before) rtype outcome ⊎ (outcome ≡ Some (leaf_of (nothing_there answering) rtype))
-  only None is = by (put.only rtype None is) where
-    by : IsOutcomeOf before rtype None ⊎ (None ≡ Some (leaf_of answering rtype)) → IsOutcomeOf (nothing_below before) rtype None ⊎ (None ≡ Some (leaf_of (nothing_there answering) rtype))
-    by (inl early) = inl early
-    by (inr e) = cc
-  only (Some leaf) is = inr (ap (λ (leaf : Leaf). Some leaf) (only_nothing after.answer leaf is ∙ sym (nothing_leaf answering rtype)))
+      → IsOutcomeOf (nothing_below before) rtype outcome ⊎ (outcome ≡ outcome_with (nothing_there answering) rtype)
+  only outcome (inl fails) = inl (inl (fails.0, put.failed fails.1))
+  only outcome (inr is) = inr (only_nothing after.answer outcome is ∙ sym (nothing_leaf answering rtype))
 
 -- an answer that is put to the query's ends is put, as no such name, to those of the query with an unnamed tail
-pub put_below : (before after : StraightEnds) (answering : AnswerOwners) (rewrites : ℕ) (none_below : Bool) → AnswerIsPut before answering rewrites none_below after
-    → AnswerIsPut (nothing_below before) (nothing_there answering) 0 none_below (nothing_below after)
-put_below before after answering rewrites none_below put =
+pub put_below : (before after : StraightEnds) (answering : AnswerOwners) (rewrites : ℕ) (none_below : Bool) (told : Told) → AnswerIsPut before answering rewrites none_below told after
+    → AnswerIsPut (nothing_below before) (nothing_there answering) 0 none_below told (nothing_below after)
+put_below before after answering rewrites none_below told put =
     record {
-      still = record { rewrites = put.still.rewrites; faulty = put.still.faulty; outcomes = λ rtype outcome is. still before after answering rewrites none_below put rtype outcome is };
+      still =
+          record {
+            rewrites = put.still.rewrites;
+            fails = put.still.fails;
+            faulty = put.still.faulty;
+            blackholes = put.still.blackholes;
+            alias_faults = put.still.alias_faults;
+            outcomes = λ rtype outcome is. still before after answering rewrites none_below told put rtype outcome is;
+          };
       behind = omega arith;
-      there = λ rtype. there before after answering rewrites none_below put rtype ∙ ap (λ (leaf : Leaf). Some leaf) (sym (nothing_leaf answering rtype));
-      only = λ rtype outcome is. only before after answering rewrites none_below put rtype outcome is;
+      failed = put.failed;
+      there = λ rtype. there before after answering rewrites none_below told put rtype ∙ ap (λ (o : Option Leaf). Some o) (sym (nothing_leaf answering rtype));
+      only = λ rtype outcome is. only before after answering rewrites none_below told put rtype outcome is;
       same_faulty = put.same_faulty;
+      blackholes = put.blackholes;
+      alias_faults = put.alias_faults;
       alone = put.alone;
       unnamed = put.unnamed;
     }

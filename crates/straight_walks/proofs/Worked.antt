@@ -1,6 +1,6 @@
 -- A worked value: a query whose walks go straight, by a delegation to two name servers that answer alike.
-use Rattle.std.proofs.Common.{◌≡◌, Vec, Global, Bool, true, false, cond, List, [], ◌∷◌, refl, sym, ap, ◌∙◌, subst, inl, inr, arith}
-use Rattle.std.specs.Prelude.{codes, Option, Some, None, Contains}
+use Rattle.std.proofs.Common.{◌≡◌, Vec, Global, Bool, true, false, cond, List, [], ◌∷◌, refl, sym, subst, inl, inr, arith}
+use Rattle.std.specs.Prelude.{codes, ◌++◌, Option, Some, None, Contains, option_map}
 use Rattle.dns_data.specs.Name.{Labels}
 use Rattle.dns_data.specs.RrType.{type_eq}
 use Rattle.dns_data.specs.declared.rdata.Rdata.{Rdata}
@@ -22,12 +22,14 @@ use Rattle.net_model.specs.declared.walk.Leaf.TheVariants.{NxDomain}
 use Rattle.net_model.specs.declared.walk.State.{State}
 use Rattle.zone_lookup.specs.Sound.{IsSound}
 use Rattle.walk_laws.specs.Outcome.{HasOutcome}
-use Rattle.straight_walks.specs.Answers.{ZoneOwner, leaf_of, owner_leaf}
-use Rattle.straight_walks.specs.Ends.{IsOutcomeOf}
+use Rattle.straight_walks.specs.Answers.{ZoneOwner, owner_leaf}
+use Rattle.straight_walks.specs.Ends.{IsOutcomeOf, told_by}
 use Rattle.straight_walks.specs.Faulty.{AreAbove, HasReferralFaults, faults_at}
+use Rattle.straight_walks.specs.Nowhere.{IsToldEnd}
 use Rattle.straight_walks.specs.Straight.{GoesStraight, StepsStraight, faults_by_ends}
 use Rattle.straight_walks.specs.declared.ends.StraightEnds.{StraightEnds}
 use Rattle.straight_walks.specs.declared.faulty.Faulty.{Faulty}
+use Rattle.straight_walks.proofs.AliasEnds.{untold_with}
 use Rattle.straight_walks.proofs.FlagsByTable.{sound_shows_none}
 
 abbrev t : Labels
@@ -98,7 +100,7 @@ nothing = record { zone = delegated; owner = None }
 
 abbrev ends_with : Vec Faulty Global → StraightEnds
 ends_with faulty =
-    record { answer = Some (record { own = nothing; last = nothing }); fails = false; faulty = faulty; rewrites = 0; below = false; unnamed_below = false }
+    record { answer = Some (record { own = nothing; last = Some nothing }); fails = false; faulty = faulty; blackholes = []; alias_faults = []; rewrites = 0; below = false; unnamed_below = false }
 
 second : Contains states (behind nsa)
 second = has_later first (behind nsa ∷ behind nsb ∷ []) (behind nsa) (has_first (behind nsa) (behind nsb ∷ []))
@@ -120,41 +122,51 @@ module _ (rtype : RrType) (faulty : Vec Faulty Global) (none : faulty.items ≡ 
   ends = ends_with faulty
 
   -- the referrals show no fault
-  is_told : (to : Cut) → IsSound setting.config deps to → HasReferralFaults setting.config deps (faults_by_ends www ends) to
+  is_told : (to : Cut) → IsSound setting.config deps to → HasReferralFaults setting.config deps (faults_by_ends www ends rtype) to
   is_told to sound fault has = absurd (sound_shows_none setting.config deps to sound fault has)
 
-  none_told : (fault : Fault) → Contains (faults_by_ends www ends) fault → ⊥
-  none_told fault has = none_in_nil fault (subst (λ (all : List Faulty). Contains (faults_at www all) fault) none has)
+  none_told : (fault : Fault) → Contains (faults_by_ends www ends rtype) fault → ⊥
+  none_told fault has =
+      none_in_nil fault (subst (λ (all : List Faulty). Contains (faults_at www all) fault) none
+      (subst (λ (told : List Fault). Contains (told ++ faults_at www faulty.items) fault) (untold_with rtype) has))
 
   -- with each type they answer so
-  leaf_is : leaf_of (record { own = nothing; last = nothing }) rtype ≡ NxDomain
-  leaf_is = by (type_eq rtype types.Cname) where
-    by : (b : Bool) → owner_leaf (cond b nothing nothing) rtype ≡ NxDomain
+  outcome_is : told_by ends rtype ≡ Some (Some NxDomain)
+  outcome_is = by (type_eq rtype types.Cname) where
+    by : (b : Bool) → Some (option_map (λ at. owner_leaf at rtype) (cond b (Some nothing) (Some nothing))) ≡ Some (Some NxDomain)
     by true = refl
     by false = refl
 
   told : IsOutcomeOf ends rtype (Some NxDomain)
-  told = ap (λ (leaf : Leaf). Some leaf) leaf_is
+  told = inr outcome_is
 
-  first_goes : StepsStraight setting deps (faults_by_ends www ends) ends rtype states first
+  first_goes : StepsStraight setting deps (faults_by_ends www ends rtype) ends rtype states first
   first_goes = (
     inl (inr (cut nsa, behind nsa, is_told (cut nsa) first_sound, refl, second)),
     (inl (inr (cut nsb, behind nsb, is_told (cut nsb) second_sound, refl, third)), tt),
   )
 
-  -- where the name doesn't exist
-  second_answers : StepsStraight setting deps (faults_by_ends www ends) ends rtype states (behind nsa)
-  second_answers = (inr (inl (NxDomain, refl, told, λ is. refl, refl)), tt)
+  -- no rewrite led there
+  none_led : IsToldEnd (faults_by_ends www ends rtype) None NxDomain
+  none_led place led = cc
 
-  third_answers : StepsStraight setting deps (faults_by_ends www ends) ends rtype states (behind nsb)
-  third_answers = (inr (inl (NxDomain, refl, told, λ is. refl, refl)), tt)
+  -- where the name doesn't exist
+  second_answers : StepsStraight setting deps (faults_by_ends www ends rtype) ends rtype states (behind nsa)
+  second_answers = (inr (inl (NxDomain, told, none_led, refl)), tt)
+
+  third_answers : StepsStraight setting deps (faults_by_ends www ends rtype) ends rtype states (behind nsb)
+  third_answers = (inr (inl (NxDomain, told, none_led, refl)), tt)
 
   -- so ends the walk by the first name server
   www_told : (outcome : Option Leaf) → IsOutcomeOf ends rtype outcome → HasOutcome setting www rtype outcome
-  www_told (Some leaf) is =
-      subst (HasOutcome setting www rtype) (sym told ∙ is)
+  www_told outcome (inr is) =
+      let same : Some NxDomain ≡ outcome = one (told_by ends rtype) (Some NxDomain) outcome outcome_is is in
+      subst (HasOutcome setting www rtype) same
       (record { states = first ∷ behind nsa ∷ []; hops = Refer (cut nsa) ∷ []; leaf = NxDomain }, (0 ∷ 0 ∷ 0 ∷ [], refl), refl)
-  www_told None is = cc
+    where
+      one : (told : Option (Option Leaf)) (a b : Option Leaf) → told ≡ Some a → told ≡ Some b → a ≡ b
+      one told a b is also = cc
+  www_told outcome (inl fails) = cc
 
   www_goes_straight : GoesStraight setting deps 3 www ends rtype
   www_goes_straight =
@@ -162,7 +174,7 @@ module _ (rtype : RrType) (faulty : Vec Faulty Global) (none : faulty.items ≡ 
         states = states;
         few = omega arith;
         begins = λ state has. each_along (Contains states) (first ∷ []) (has_first first (behind nsa ∷ behind nsb ∷ []), tt) state has;
-        steps = λ state has. each_along (StepsStraight setting deps (faults_by_ends www ends) ends rtype states) states (first_goes, (second_answers, (third_answers, tt))) state has;
+        steps = λ state has. each_along (StepsStraight setting deps (faults_by_ends www ends rtype) ends rtype states) states (first_goes, (second_answers, (third_answers, tt))) state has;
         told = www_told;
         shown = λ fault has. absurd (none_told fault has);
         above = subst (AreAbove www) (sym none) tt;

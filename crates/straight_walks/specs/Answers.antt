@@ -1,5 +1,5 @@
 -- What a server answers to a query with each type.
-use Rattle.std.specs.Prelude.{ℕ, List, Option, Some, option_map, if◌then◌else◌}
+use Rattle.std.specs.Prelude.{ℕ, List, Option, Some, IfSome, option_map, if◌then◌else◌}
 use Rattle.std.specs.Option.{option_map_or}
 use Rattle.dns_data.specs.Name.{Labels}
 use Rattle.dns_data.specs.RrType.{type_eq}
@@ -12,7 +12,8 @@ use Rattle.net_model.specs.declared.config.Zone.{Zone}
 use Rattle.net_model.specs.declared.walk.Leaf.{Leaf}
 use Rattle.net_model.specs.declared.walk.Leaf.TheVariants.{NxDomain}
 use Rattle.zone_lookup.specs.Resting.{data_leaf}
-use Rattle.zone_tree.specs.Tree.{ZoneTree, name_of}
+use Rattle.zone_tree.specs.Tree.{IsNode, ZoneTree, name_of}
+use Rattle.straight_walks.specs.declared.answers.LastOwner.{LastOwner}
 
 -- an owner in a zone, whose data the zone answers; without one it answers that there is no such name
 pub record ZoneOwner : Type 0 where
@@ -23,23 +24,31 @@ pub record ZoneOwner : Type 0 where
 abbrev pub zone_owner : ZoneTree → Option ℕ → ZoneOwner
 zone_owner tree owner = record { zone = tree.zone; owner = option_map (name_of tree) owner }
 
+-- the last owner to which aliases lead is one in its zone, or there is none
+abbrev pub IsLast : LastOwner → Type 0
+IsLast last = IfSome last.owner (IsNode last.tree.now)
+
+-- its zone and name
+abbrev pub last_owner : LastOwner → ZoneOwner
+last_owner last = zone_owner last.tree.now last.owner
+
 -- What a server answers: with type CNAME by the name's own owner, and with each other type by the last owner, to which
--- the name's aliases lead. They are the same where the name is no alias.
+-- the name's aliases lead, or without one walks fail. They are the same where the name is no alias.
 pub record AnswerOwners : Type 0 where
   pub own : ZoneOwner
-  pub last : ZoneOwner
+  pub last : Option ZoneOwner
 
 -- what is answered by the tree's node, or without one, where the name is no alias
 abbrev pub answering_by : ZoneTree → Option ℕ → AnswerOwners
-answering_by tree owner = record { own = zone_owner tree owner; last = zone_owner tree owner }
+answering_by tree owner = record { own = zone_owner tree owner; last = Some (zone_owner tree owner) }
 
--- what is answered by the tree's node, whose name is an alias, and by the node of the other tree, to which the aliases lead
-abbrev pub alias_answering : ZoneTree → ℕ → ZoneTree → ℕ → AnswerOwners
-alias_answering tree owner last_tree last = record { own = zone_owner tree (Some owner); last = zone_owner last_tree (Some last) }
+-- what is answered by the tree's node, whose name is an alias, and by the last owner, to which the aliases lead
+abbrev pub alias_answering : ZoneTree → ℕ → Option ZoneOwner → AnswerOwners
+alias_answering tree owner last = record { own = zone_owner tree (Some owner); last = last }
 
--- the owner by which it is answered with a type (RFC 1034 section 3.6.2)
-abbrev pub owner_with : AnswerOwners → RrType → ZoneOwner
-owner_with answering rtype = if type_eq rtype types.Cname then answering.own else answering.last
+-- the owner by which it is answered with a type (RFC 1034 section 3.6.2), or none where walks fail
+abbrev pub owner_with : AnswerOwners → RrType → Option ZoneOwner
+owner_with answering rtype = if type_eq rtype types.Cname then Some answering.own else answering.last
 
 -- the data of a type that an owner has, in the order of their texts
 abbrev pub sorted_data : Zone → Labels → RrType → List Rdata
@@ -49,6 +58,6 @@ sorted_data zone owner rtype = in_order data_cmp (data_at zone owner rtype)
 abbrev pub owner_leaf : ZoneOwner → RrType → Leaf
 owner_leaf at rtype = option_map_or (λ owner. data_leaf (sorted_data at.zone owner rtype)) at.owner NxDomain
 
--- what is answered with a type
-abbrev pub leaf_of : AnswerOwners → RrType → Leaf
-leaf_of answering rtype = owner_leaf (owner_with answering rtype) rtype
+-- the outcome of walks with a type: what is answered, or that they fail
+abbrev pub outcome_with : AnswerOwners → RrType → Option Leaf
+outcome_with answering rtype = option_map (λ at. owner_leaf at rtype) (owner_with answering rtype)

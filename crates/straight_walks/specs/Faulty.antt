@@ -76,7 +76,7 @@ BranchShows config deps branch fault =
     (cut : Cut) × (branch_hop branch ≡ Some (Refer cut))
     × (Contains (referral_faults config deps cut) fault ⊎ ((fault ≡ faults.Lame cut) × (branch ≡ End (Some (Refer cut)) (leaves.Lame cut.ns))))
 
--- the query shows these faults, with each type, and no others
-pub record ShowsThese (setting : FaultSetting) (query : Labels) (these : List Fault) : Type 0 where
-  pub there : (rtype : RrType) (fault : Fault) → Contains these fault → Shows setting query rtype fault
-  pub only : (rtype : RrType) (fault : Fault) → Shows setting query rtype fault → Contains these fault
+-- with each type the query shows these faults and no others
+pub record ShowsThese (setting : FaultSetting) (query : Labels) (these : RrType → List Fault) : Type 0 where
+  pub there : (rtype : RrType) (fault : Fault) → Contains (these rtype) fault → Shows setting query rtype fault
+  pub only : (rtype : RrType) (fault : Fault) → Shows setting query rtype fault → Contains (these rtype) fault

@@ -3,10 +3,12 @@ pub use Rattle.net_model.specs.Shown
 pub use Rattle.net_model.specs.Tails
 pub use Rattle.net_model.specs.Tree
 pub use Rattle.walk_laws.specs.Outcome
+pub mod Aliases
 pub mod Answers
 pub mod Ends
 pub mod Faulty
 pub mod Marks
+pub mod Nowhere
 pub mod Regions
 pub mod Searching
 pub mod Straight

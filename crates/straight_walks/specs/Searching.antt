@@ -3,14 +3,12 @@ use Rattle.std.specs.Prelude.{◌≡◌, ◌≢◌, ◌<◌, ◌≤◌, ◌+◌,
 use Rattle.std.specs.List.{AllByRecursion, slice_get}
 use Rattle.std.specs.Global.{Global}
 use Rattle.dns_data.specs.Name.{Labels}
-use Rattle.dns_data.specs.RrType.{type_eq}
 use Rattle.dns_data.specs.declared.rr_type.RrType.{RrType}
-use Rattle.dns_data.specs.declared.rr_type.RrType.TheVariants as types
 use Rattle.net_model.specs.declared.deps.Deps.{Deps}
 use Rattle.net_model.specs.Lookup.{ByNothing, ByRecords, deciding}
 use Rattle.net_model.specs.Nearest.{held_zone, nearest_of}
 use Rattle.net_model.specs.OpenTail.{open_deciding}
-use Rattle.net_model.specs.Shown.{Shows, is_authoritative, with_lists}
+use Rattle.net_model.specs.Shown.{Shows, with_lists}
 use Rattle.net_model.specs.Step.{Setting, Branch, Go, End, next, referred, start}
 use Rattle.net_model.specs.Tails.{IsUnnamedTail}
 use Rattle.net_model.specs.Walk.{IsWalk, walk_from}
@@ -23,24 +21,24 @@ use Rattle.net_model.specs.declared.walk.Hop.{Hop}
 use Rattle.net_model.specs.declared.walk.Hop.TheVariants.{Refer, Rewrite}
 use Rattle.net_model.specs.declared.walk.Leaf.{Leaf}
 use Rattle.net_model.specs.declared.walk.Leaf.TheVariants as leaves
-use Rattle.net_model.specs.declared.walk.Leaf.TheVariants.{NxDomain}
 use Rattle.net_model.specs.declared.fault.Fault.{Fault}
 use Rattle.net_model.specs.declared.fault.Fault.TheVariants as faults
 use Rattle.net_model.specs.declared.walk.State.{State}
 use Rattle.net_model.specs.declared.walk.Walk.{Walk}
 use Rattle.walk_laws.specs.Outcome.{HasOutcome, outcome_of}
-use Rattle.zone_tree.specs.Tree.{ZoneTree, IsNode, name_of}
+use Rattle.zone_tree.specs.Tree.{ZoneTree, name_of}
 use Rattle.zone_lookup.specs.CutTable.{cut_to}
 use Rattle.zone_lookup.specs.Reply.{IsReply}
 use Rattle.zone_lookup.specs.ReferralFaults.{referral_faults}
-use Rattle.straight_walks.specs.Answers.{AnswerOwners, ZoneOwner, leaf_of, owner_leaf, zone_owner}
-use Rattle.straight_walks.specs.Ends.{IsOutcomeOf}
+use Rattle.straight_walks.specs.Answers.{AnswerOwners, ZoneOwner, outcome_with, owner_leaf}
+use Rattle.straight_walks.specs.Ends.{IsOutcomeOf, told_by}
 use Rattle.straight_walks.specs.Faulty.{AreAbove, BranchShows, HasReferralFaults, faults_at, flag_faults, shows_some}
+use Rattle.straight_walks.specs.Nowhere.{EndShows, HasLimit, IsToldEnd, Told, told_with, untold}
 use Rattle.straight_walks.specs.Straight.{FailsOrGoes, FollowsLeast, GoesStraight, NoOriginBetween, faults_by_ends}
 use Rattle.straight_walks.specs.declared.faulty.Faulty.{Faulty}
 use Rattle.straight_walks.specs.declared.faulty.ReferralFlags.{ReferralFlags}
-use Rattle.straight_walks.specs.declared.aliases.AliasEnd.{AliasEnd}
 use Rattle.straight_walks.specs.declared.ends.StraightEnds.{StraightEnds}
+use Rattle.straight_walks.specs.declared.lent_place.AliasFault.{AliasFault}
 use Rattle.straight_walks.specs.declared.queue.Queued.{Queued}
 use Rattle.straight_walks.specs.declared.searching.Search.{Search}
 use Rattle.straight_walks.specs.declared.referring.NextReferral.{NextReferral}
@@ -86,10 +84,12 @@ abbrev pub EndsWith : Setting → RrType → State → Option Leaf → Type 0
 EndsWith setting rtype from outcome =
     (numbers : List ℕ) × (walk : Walk) × (walk_from setting rtype numbers from ≡ Some walk) × (outcome_of walk.leaf ≡ outcome)
 
--- the walk is the rest of one of the query: some hops come before its own, and both end alike
+-- the walk is the rest of one of the query: some states and hops come before its own, and both end alike
 pub record IsRestOfWalk (setting : Setting) (query : Labels) (rtype : RrType) (walk : Walk) : Type 0 where
   pub whole : Walk
   pub is_walk : IsWalk setting query rtype whole
+  pub front : List State
+  pub states : whole.states ≡ front ++ walk.states
   pub before : List Hop
   pub hops : whole.hops ≡ before ++ walk.hops
   pub leaf : whole.leaf ≡ walk.leaf
@@ -104,7 +104,7 @@ pub record IsComeTo (setting : Setting) (query : Labels) (rtype : RrType) (state
 -- the zones of a server that answers have no such name
 abbrev pub nothing_there : AnswerOwners → AnswerOwners
 nothing_there answering =
-    record { own = record { zone = answering.own.zone; owner = None }; last = record { zone = answering.last.zone; owner = None } }
+    let nothing : ZoneOwner = record { zone = answering.own.zone; owner = None } in record { own = nothing; last = Some nothing }
 
 -- the ends of a name below the query of which the zones that answer the query answer that there is none
 abbrev pub nothing_below : StraightEnds → StraightEnds
@@ -124,7 +124,7 @@ AreEndsFor config query ends name found =
 
 -- no zone answers the query nor a name below it, no walk is rewritten, and walks fail or don't
 abbrev pub unanswered : Bool → Vec Faulty Global → StraightEnds
-unanswered fails faulty = record { answer = None; fails = fails; faulty = faulty; rewrites = 0; below = true; unnamed_below = true }
+unanswered fails faulty = record { answer = None; fails = fails; faulty = faulty; blackholes = []; alias_faults = []; rewrites = 0; below = true; unnamed_below = true }
 
 -- the ends, and some walk ends where no zone answers
 abbrev pub failing : StraightEnds → StraightEnds
@@ -138,22 +138,38 @@ KeepsFaulty before after = (more : List Faulty) × (after ≡ before ++ more)
 abbrev pub KeepsAbove : Labels → List Faulty → List Faulty → Type 0
 KeepsAbove query before after = (more : List Faulty) × (after ≡ before ++ more) × AreAbove query more
 
--- each outcome of the first is one of the second, behind no fewer rewrites, and so is each referral that shows faults
+-- the items are those before, with these at the end
+abbrev pub ArePut : {T : Type 0} → List T → List T → List T → Type 0
+ArePut before [] after = after ≡ before
+ArePut before more after = after ≡ before ++ more
+
+-- the items are those before, with some at the end
+abbrev pub KeepsAll : {T : Type 0} → List T → List T → Type 0
+KeepsAll {T} before after = (more : List T) × ArePut before more after
+
+-- each outcome of the first is one of the second, behind no fewer rewrites, and so is each referral that shows faults, and
+-- what is told of rewrites
 pub record KeepsOutcomes (before after : StraightEnds) : Type 0 where
   pub rewrites : before.rewrites ≤ after.rewrites
+  pub fails : before.fails ≡ true → after.fails ≡ true
   pub faulty : KeepsFaulty before.faulty.items after.faulty.items
+  pub blackholes : KeepsAll before.blackholes after.blackholes
+  pub alias_faults : KeepsAll before.alias_faults after.alias_faults
   pub outcomes : (rtype : RrType) (outcome : Option Leaf) → IsOutcomeOf before rtype outcome → IsOutcomeOf after rtype outcome
 
--- what a server answers behind so many rewrites is put to the ends: it is their answer then, no other outcome comes to
--- those before, and of names below the query they tell at most of those with an unnamed tail, where the server has none
--- of these
-pub record AnswerIsPut (before : StraightEnds) (answering : AnswerOwners) (rewrites : ℕ) (none_below : Bool) (after : StraightEnds) : Type 0 where
+-- what a server answers behind so many rewrites is put to the ends, with what walks show there: it is their answer then, no
+-- other outcome comes to those before, and of names below the query they tell at most of those with an unnamed tail, where
+-- the server has none of these
+pub record AnswerIsPut (before : StraightEnds) (answering : AnswerOwners) (rewrites : ℕ) (none_below : Bool) (told : Told) (after : StraightEnds) : Type 0 where
   pub still : KeepsOutcomes before after
   pub behind : rewrites ≤ after.rewrites
-  pub there : (rtype : RrType) → IsOutcomeOf after rtype (Some (leaf_of answering rtype))
+  pub failed : after.fails ≡ true → before.fails ≡ true
+  pub there : (rtype : RrType) → told_by after rtype ≡ Some (outcome_with answering rtype)
   pub only : (rtype : RrType) (outcome : Option Leaf) → IsOutcomeOf after rtype outcome
-      → IsOutcomeOf before rtype outcome ⊎ (outcome ≡ Some (leaf_of answering rtype))
+      → IsOutcomeOf before rtype outcome ⊎ (outcome ≡ outcome_with answering rtype)
   pub same_faulty : after.faulty.items ≡ before.faulty.items
+  pub blackholes : ArePut before.blackholes told.places after.blackholes
+  pub alias_faults : ArePut before.alias_faults told.aliases after.alias_faults
   pub alone : after.below ≡ false
   pub unnamed : after.unnamed_below ≡ (before.unnamed_below && none_below)
 
@@ -244,47 +260,64 @@ AnswersAt config query server owner =
 
 -- ---- rewrites
 
--- walks from the state go on by rewrites alone, through these states, and end in the answer; a name to which a rewrite
--- led exists
-abbrev pub AnswersAlong : Setting → RrType → Leaf → State → List State → Type 0
-AnswersAlong setting rtype leaf state [] = (next setting rtype state ≡ End None leaf ∷ []) × (leaf ≡ NxDomain → state.last ≡ None)
-AnswersAlong setting rtype leaf state (to ∷ behind) =
+-- walks from the state go on by rewrites alone, through these states, and end so; what the end shows is among the shown
+-- faults
+abbrev pub AnswersAlong : Setting → List Fault → RrType → Leaf → State → List State → Type 0
+AnswersAlong setting shown rtype leaf state [] = (next setting rtype state ≡ End None leaf ∷ []) × IsToldEnd shown state.last leaf
+AnswersAlong setting shown rtype leaf state (to ∷ behind) =
     (place : Place) × (by_dname : Bool) × (target : Labels) × (next setting rtype state ≡ Go (Rewrite place by_dname target) to ∷ [])
-    × AnswersAlong setting rtype leaf to behind
+    × AnswersAlong setting shown rtype leaf to behind
 
--- with each type but CNAME walks from a state with the name, to which so many rewrites led, go by aliases alone to what
--- the end's owner has, by no more rewrites in all than the end's
-pub record IsAliasEnd (config : Config) (server name : Labels) (rewrites : ℕ) (end : AliasEnd) : Type 0 where
-  pub node : IsNode end.tree.now end.owner
-  pub held : is_some (nearest_of config server name) ≡ true
-  pub no_fewer : rewrites ≤ end.rewrites
-  pub along : (setting : Setting) (rtype : RrType) (state : State) → setting.config ≡ config → end.rewrites ≤ setting.rewrites → type_eq rtype types.Cname ≡ false
-      → state.server ≡ server → state.name ≡ name → state.used ≡ rewrites
-      → (behind : List State) × (length behind + rewrites ≤ end.rewrites)
-      × AnswersAlong setting rtype (owner_leaf (zone_owner end.tree.now (Some end.owner)) rtype) state behind
+-- a walk from the state shows the fault by its end
+pub record EndsInFault (setting : Setting) (rtype : RrType) (from : State) (fault : Fault) : Type 0 where
+  pub numbers : List ℕ
+  pub walk : Walk
+  pub goes : walk_from setting rtype numbers from ≡ Some walk
+  pub shows : EndShows walk fault
 
--- with each type walks from a state with the name, to which so many rewrites led, go by rewrites alone to the answer,
--- by no more rewrites in all than these
-abbrev pub AnswersBehind : Config → Labels → Labels → ℕ → AnswerOwners → ℕ → Type 0
-AnswersBehind config server name rewrites answering most =
-    (setting : Setting) (rtype : RrType) (state : State) → setting.config ≡ config → most ≤ setting.rewrites
-    → state.server ≡ server → state.name ≡ name → state.used ≡ rewrites
-    → (behind : List State) × (length behind + rewrites ≤ most) × AnswersAlong setting rtype (leaf_of answering rtype) state behind
+-- walks with the type from the state, behind so many rewrites, go by rewrites alone to an end with this outcome, by no more
+-- rewrites in all than these; what the end shows is among the shown faults
+abbrev pub AnswersFrom : Setting → List Fault → RrType → Option Leaf → State → ℕ → ℕ → Type 0
+AnswersFrom setting shown rtype outcome state rewrites most =
+    (leaf : Leaf) × (behind : List State) × (outcome_of leaf ≡ outcome) × (length behind + rewrites ≤ most) × AnswersAlong setting shown rtype leaf state behind
 
--- what the server answers to the name, to which so many rewrites led, is put to the ends
-pub record IsAnsweredBehind (config : Config) (server name : Labels) (rewrites : ℕ) (before after : StraightEnds) : Type 0 where
+-- walks are read in the configuration, they may be rewritten so often, and as often as the limits say that are told
+pub record MayRewrite (config : Config) (most : ℕ) (aliases : List AliasFault) (setting : Setting) : Type 0 where
+  pub config_is : setting.config ≡ config
+  pub enough : most ≤ setting.rewrites
+  pub limits : AllByRecursion (HasLimit setting.rewrites) aliases
+
+-- the state is one at the server with the name, to which so many rewrites led, the last of this place, or none
+pub record IsBehind (server name : Labels) (rewrites : ℕ) (last : Option Place) (state : State) : Type 0 where
+  pub at_server : state.server ≡ server
+  pub with_name : state.name ≡ name
+  pub used : state.used ≡ rewrites
+  pub by_last : state.last ≡ last
+
+-- with each type walks from such a state go by rewrites alone to the answer, and show what is told then
+pub record AnswersBehind (config : Config) (server name : Labels) (rewrites : ℕ) (last : Option Place) (told : Told) (answering : AnswerOwners) (most : ℕ) : Type 0 where
+  pub answers : (setting : Setting) (rtype : RrType) (state : State) → MayRewrite config most told.aliases setting → IsBehind server name rewrites last state
+      → AnswersFrom setting (told_with told rtype) rtype (outcome_with answering rtype) state rewrites most
+  pub shows : (setting : Setting) (rtype : RrType) (state : State) → MayRewrite config most told.aliases setting → IsBehind server name rewrites last state
+      → (fault : Fault) → Contains (told_with told rtype) fault → EndsInFault setting rtype state fault
+
+-- what the server answers to the name, to which so many rewrites led, the last of this place, is put to the ends
+pub record IsAnsweredBehind (config : Config) (server name : Labels) (rewrites : ℕ) (last : Place) (before after : StraightEnds) : Type 0 where
   pub held : is_some (nearest_of config server name) ≡ true
   pub answering : AnswerOwners
   pub most : ℕ
+  pub told : Told
   pub no_fewer : rewrites ≤ most
-  pub answers : AnswersBehind config server name rewrites answering most
-  pub put : AnswerIsPut before answering most false after
+  pub behind : AnswersBehind config server name rewrites (Some last) told answering most
+  pub put : AnswerIsPut before answering most false told after
 
--- with each type walks from the query's state at the server end in the answer, behind no more rewrites than these
-abbrev pub AnswersSo : Config → Labels → Labels → AnswerOwners → ℕ → Type 0
-AnswersSo config query server answering rewrites =
-    (setting : Setting) (rtype : RrType) (above : ℕ) → setting.config ≡ config → rewrites ≤ setting.rewrites
-    → (behind : List State) × (length behind ≤ rewrites) × AnswersAlong setting rtype (leaf_of answering rtype) (state_at config query server above) behind
+-- with each type walks from the query's state at the server end in the answer, behind no more rewrites than these, and show
+-- what is told
+pub record AnswersSo (config : Config) (query server : Labels) (told : Told) (answering : AnswerOwners) (most : ℕ) : Type 0 where
+  pub answers : (setting : Setting) (rtype : RrType) (above : ℕ) → MayRewrite config most told.aliases setting
+      → AnswersFrom setting (told_with told rtype) rtype (outcome_with answering rtype) (state_at config query server above) 0 most
+  pub shows : (setting : Setting) (rtype : RrType) (above : ℕ) → MayRewrite config most told.aliases setting
+      → (fault : Fault) → Contains (told_with told rtype) fault → EndsInFault setting rtype (state_at config query server above) fault
 
 -- where the records of the tree's owner decide at the query, nothing decides at it with an open tail
 abbrev pub HasNothingBelow : ZoneTree → ℕ → Labels → Type 0
@@ -295,34 +328,44 @@ abbrev pub AnswersNothingBelow : Config → Labels → Labels → Type 0
 AnswersNothingBelow config query server =
     (tail : Labels) → IsUnnamedTail config query tail → (zone : Zone) → AnswersAt config (query ++ tail) server (record { zone = zone; owner = None })
 
--- what the server answers to the query is put to the ends, and whether it has none of the query's names with an unnamed
--- tail
+-- what the server answers to the query is put to the ends with what walks show there, and whether it has none of the
+-- query's names with an unnamed tail: then they show nothing
 pub record IsAnswered (config : Config) (query server : Labels) (before after : StraightEnds) : Type 0 where
   pub answering : AnswerOwners
   pub rewrites : ℕ
   pub none_below : Bool
-  pub answers : AnswersSo config query server answering rewrites
-  pub put : AnswerIsPut before answering rewrites none_below after
+  pub told : Told
+  pub so : AnswersSo config query server told answering rewrites
+  pub put : AnswerIsPut before answering rewrites none_below told after
   pub below : none_below ≡ true → AnswersNothingBelow config query server
+  pub tells_nothing : none_below ≡ true → told ≡ untold
 
 -- ---- states that are passed
 
 -- walks with the type from the state end in an answer of the ends, behind no more rewrites than the ends tell
-abbrev pub EndsAnswered : Setting → StraightEnds → RrType → State → Type 0
-EndsAnswered setting ends rtype state =
-    (behind : List State) × (leaf : Leaf) × (length behind ≤ ends.rewrites) × (is_authoritative leaf ≡ true) × IsOutcomeOf ends rtype (Some leaf)
-    × AnswersAlong setting rtype leaf state behind
+abbrev pub EndsAnswered : Setting → List Fault → StraightEnds → RrType → State → Type 0
+EndsAnswered setting shown ends rtype state =
+    (behind : List State) × (leaf : Leaf) × (length behind ≤ ends.rewrites) × IsOutcomeOf ends rtype (outcome_of leaf)
+    × AnswersAlong setting shown rtype leaf state behind
 
 -- walks with the type go straight from the state: each branch ends where no zone answers, which is one of the ends, or
 -- goes on to one of the states; or they end in an answer
 abbrev pub PassesState : Setting → Deps → List Fault → StraightEnds → RrType → List State → State → Type 0
 PassesState setting deps shown ends rtype states state =
-    AllByRecursion (FailsOrGoes setting.config deps shown ends.fails states) (next setting rtype state) ⊎ EndsAnswered setting ends rtype state
+    AllByRecursion (FailsOrGoes setting.config deps shown ends.fails states) (next setting rtype state) ⊎ EndsAnswered setting shown ends rtype state
 
--- the setting is one of the configuration in which a walk may be rewritten as often as the ends tell
+-- the setting is one of the configuration in which a walk may be rewritten as often as the ends tell, and as the limits say
+-- that they tell
 pub record IsSettingFor (config : Config) (deps : Deps) (ends : StraightEnds) (setting : Setting) : Type 0 where
   pub is_of : IsSettingOf config deps setting
   pub rewrites : ends.rewrites ≤ setting.rewrites
+  pub limits : AllByRecursion (HasLimit setting.rewrites) ends.alias_faults
+
+-- a branch of the state shows the fault, or a walk from the state shows it by its end
+abbrev pub StateShows : Setting → Deps → RrType → State → Fault → Type 0
+StateShows setting deps rtype state fault =
+    ((branch : Branch) × Contains (next setting rtype state) branch × BranchShows setting.config deps branch fault)
+    ⊎ EndsInFault setting rtype state fault
 
 -- from the query's state at a server walks go straight, to an end or on to states that are queued then; no other states
 -- come to the queue, and no other outcomes to the ends
@@ -331,15 +374,15 @@ pub record PassesServer (config : Config) (deps : Deps) (query server : Labels) 
   pub still : KeepsOutcomes ends_before ends
   pub above : AreAbove query ends_before.faulty.items → AreAbove query ends.faulty.items
   pub steps : (setting : Setting) (rtype : RrType) (above : ℕ) → IsSettingFor config deps ends setting
-      → PassesState setting deps (faults_by_ends query ends) ends rtype (map (queued_state config query) after) (state_at config query server above)
+      → PassesState setting deps (faults_by_ends query ends rtype) ends rtype (map (queued_state config query) after) (state_at config query server above)
   pub leads : (one : Queued) → Contains after one → Contains before one
       ⊎ ((setting : Setting) (rtype : RrType) (above : ℕ) → IsSettingOf config deps setting
       → LeadsOn setting rtype (state_at config query server above) (queued_state config query one))
   pub told : (rtype : RrType) (outcome : Option Leaf) → IsOutcomeOf ends rtype outcome → IsOutcomeOf ends_before rtype outcome
       ⊎ ((setting : Setting) (above : ℕ) → IsSettingFor config deps ends setting → EndsWith setting rtype (state_at config query server above) outcome)
-  pub shown : (fault : Fault) → Contains (faults_by_ends query ends) fault → Contains (faults_by_ends query ends_before) fault
-      ⊎ ((setting : Setting) (rtype : RrType) (above : ℕ) → IsSettingOf config deps setting
-      → (branch : Branch) × Contains (next setting rtype (state_at config query server above)) branch × BranchShows setting.config deps branch fault)
+  pub shown : (rtype : RrType) (fault : Fault) → Contains (faults_by_ends query ends rtype) fault → Contains (faults_by_ends query ends_before rtype) fault
+      ⊎ ((setting : Setting) (above : ℕ) → IsSettingFor config deps ends setting
+      → StateShows setting deps rtype (state_at config query server above) fault)
 
 -- ---- searches
 
@@ -363,10 +406,10 @@ pub record HasWalked (config : Config) (deps : Deps) (query : Labels) (queue pas
   pub comes : (setting : Setting) (rtype : RrType) → IsSettingOf config deps setting → (one : Queued) → Contains queue one
       → IsComeTo setting query rtype (queued_state config query one)
   pub steps : (setting : Setting) (rtype : RrType) → IsSettingFor config deps ends setting
-      → AllByRecursion (PassesState setting deps (faults_by_ends query ends) ends rtype (map (queued_state config query) queue)) (map (queued_state config query) passed)
+      → AllByRecursion (PassesState setting deps (faults_by_ends query ends rtype) ends rtype (map (queued_state config query) queue)) (map (queued_state config query) passed)
   pub told : (setting : Setting) (rtype : RrType) (outcome : Option Leaf) → IsSettingFor config deps ends setting → IsOutcomeOf ends rtype outcome
       → HasOutcome setting query rtype outcome
-  pub shown : (setting : Setting) (rtype : RrType) (fault : Fault) → IsSettingOf config deps setting → Contains (faults_by_ends query ends) fault
+  pub shown : (setting : Setting) (rtype : RrType) (fault : Fault) → IsSettingFor config deps ends setting → Contains (faults_by_ends query ends rtype) fault
       → Shows (with_lists setting deps.least deps.greatest) query rtype fault
   pub above : AreAbove query ends.faulty.items
 
@@ -387,19 +430,21 @@ HoldsOfEachName config query P ends = (name : Labels) (found : StraightEnds) →
 abbrev pub HavePassed : Config → Deps → Labels → List Queued → ℕ → StraightEnds → Type 0
 HavePassed config deps query queue passed ends = HoldsOfEachName config query (λ name found. HasPassed config deps name queue passed found) ends
 
--- in each setting of the configuration in which walks may use so many rewrites those of the query go straight to the
+-- in each setting of the configuration in which walks may use just so many rewrites those of the query go straight to the
 -- ends, with each type, over at most so many states
 abbrev pub GoesStraightIn : Config → Deps → ℕ → ℕ → Labels → StraightEnds → Type 0
 GoesStraightIn config deps rewrites most query ends =
-    (setting : Setting) → IsSettingOf config deps setting → rewrites ≤ setting.rewrites → (rtype : RrType) → GoesStraight setting deps most query ends rtype
+    (setting : Setting) → IsSettingOf config deps setting → setting.rewrites ≡ rewrites → (rtype : RrType) → GoesStraight setting deps most query ends rtype
 
 -- What a search finds that has passed so many of the queued states, with what walks end in before it and after it. If it
--- finds no referral, the query goes straight to these ends, over no more states than are queued, once for each rewrite, and
--- one for each top server. If it finds one, the search has passed all states up to the one whose server refers the query.
+-- finds no referral, the query goes straight to these ends where the limits are those that they tell, over no more states
+-- than are queued, once for each rewrite, and one for each top server. If it finds one, the search has passed all states up
+-- to the one whose server refers the query.
 abbrev pub IsNextReferral : Config → Labels → List Queued → ℕ → StraightEnds → StraightEnds → NextReferral → Type 0
 IsNextReferral config query queue before ends_before ends referring.Ends =
     (deps : Deps) → HavePassed config deps query queue before ends_before
-    → (most : ℕ) → length queue * (ends.rewrites + 1) ≤ most → HoldsOfEachName config query (GoesStraightIn config deps ends.rewrites (most + length config.tops)) ends
+    → (rewrites most : ℕ) → ends.rewrites ≤ rewrites → AllByRecursion (HasLimit rewrites) ends.alias_faults
+    → length queue * (ends.rewrites + 1) ≤ most → HoldsOfEachName config query (GoesStraightIn config deps rewrites (most + length config.tops)) ends
 IsNextReferral config query queue before ends_before ends (referring.Refers passed tree cut) =
     (before ≤ passed)
     × (passed < length queue)

@@ -1,12 +1,12 @@
 -- Queries whose walks go straight: by delegations and by rewrites in one server, to ends where all servers answer alike,
 -- and the faults of their referrals.
-use Rattle.std.specs.Prelude.{◌≡◌, ◌<◌, ◌≤◌, ℕ, Bool, true, List, ◌⊎◌, length, Option, Some, None, Contains}
+use Rattle.std.specs.Prelude.{◌≡◌, ◌<◌, ◌≤◌, ℕ, Bool, true, List, ◌++◌, ◌⊎◌, length, Option, Some, None, Contains}
 use Rattle.std.specs.List.{AllByRecursion, list_any}
 use Rattle.dns_data.specs.Name.{Labels, is_prefix, name_eq}
 use Rattle.dns_data.specs.declared.rr_type.RrType.{RrType}
 use Rattle.net_model.specs.declared.deps.Deps.{Deps}
 use Rattle.net_model.specs.Nearest.{held_zone, is_configured}
-use Rattle.net_model.specs.Shown.{Shows, is_authoritative, with_lists}
+use Rattle.net_model.specs.Shown.{Shows, with_lists}
 use Rattle.net_model.specs.Step.{Setting, Branch, Go, End, next, start}
 use Rattle.net_model.specs.declared.config.Config.{Config}
 use Rattle.net_model.specs.declared.fault.Fault.{Fault}
@@ -15,11 +15,12 @@ use Rattle.net_model.specs.declared.place.Cut.{Cut}
 use Rattle.net_model.specs.declared.place.Place.{Place}
 use Rattle.net_model.specs.declared.walk.Hop.TheVariants.{Refer, Rewrite}
 use Rattle.net_model.specs.declared.walk.Leaf.{Leaf}
-use Rattle.net_model.specs.declared.walk.Leaf.TheVariants.{Lame, NxDomain, Outside, Unhosted}
+use Rattle.net_model.specs.declared.walk.Leaf.TheVariants.{Lame, Outside, Unhosted}
 use Rattle.net_model.specs.declared.walk.State.{State}
-use Rattle.walk_laws.specs.Outcome.{HasOutcome}
+use Rattle.walk_laws.specs.Outcome.{HasOutcome, outcome_of}
 use Rattle.straight_walks.specs.Ends.{IsOutcomeOf}
 use Rattle.straight_walks.specs.Faulty.{AreAbove, HasReferralFaults, faults_at}
+use Rattle.straight_walks.specs.Nowhere.{IsToldEnd, Told, told_with}
 use Rattle.straight_walks.specs.declared.ends.StraightEnds.{StraightEnds}
 
 -- the name is at or below the other, and no server has a zone with a longer origin at or above the name
@@ -40,10 +41,10 @@ EndsUnanswered config deps shown branch =
     ⊎ ((cut : Cut) × HasReferralFaults config deps shown cut
     × ((branch ≡ End (Some (Refer cut)) (Unhosted cut.ns)) ⊎ (Contains shown (faults.Lame cut) × (branch ≡ End (Some (Refer cut)) (Lame cut.ns)))))
 
--- the branch ends where a zone answers what the ends have with the type; the name exists where a rewrite led to the state
-abbrev pub EndsInAnswer : StraightEnds → RrType → State → Branch → Type 0
-EndsInAnswer ends rtype state branch =
-    (leaf : Leaf) × (is_authoritative leaf ≡ true) × IsOutcomeOf ends rtype (Some leaf) × (leaf ≡ NxDomain → state.last ≡ None) × (branch ≡ End None leaf)
+-- the branch ends in one of the outcomes of the ends with the type, and what it shows is among the shown faults
+abbrev pub EndsInAnswer : List Fault → StraightEnds → RrType → State → Branch → Type 0
+EndsInAnswer shown ends rtype state branch =
+    (leaf : Leaf) × IsOutcomeOf ends rtype (outcome_of leaf) × IsToldEnd shown state.last leaf × (branch ≡ End None leaf)
 
 -- the branch goes on by a referral to one of these states, and the referral's faults are among the shown ones
 abbrev pub GoesTo : Config → Deps → List Fault → List State → Branch → Type 0
@@ -63,15 +64,19 @@ module _ (setting : Setting) (deps : Deps) (shown : List Fault) (ends : Straight
   -- in the answer of the ends, or goes on by a rewrite to one of the states
   abbrev pub BranchStraight : State → Branch → Type 0
   BranchStraight state branch =
-      FailsOrGoes setting.config deps shown ends.fails states branch ⊎ (EndsInAnswer ends rtype state branch ⊎ GoesByRewrite states branch)
+      FailsOrGoes setting.config deps shown ends.fails states branch ⊎ (EndsInAnswer shown ends rtype state branch ⊎ GoesByRewrite states branch)
 
   -- each branch of the state does so
   abbrev pub StepsStraight : State → Type 0
   StepsStraight state = AllByRecursion (BranchStraight state) (next setting rtype state)
 
--- the faults that the ends tell of a query
-abbrev pub faults_by_ends : Labels → StraightEnds → List Fault
-faults_by_ends query ends = faults_at query ends.faulty.items
+-- what the ends tell of rewrites
+abbrev pub told_of : StraightEnds → Told
+told_of ends = record { places = ends.blackholes; aliases = ends.alias_faults }
+
+-- the faults that the ends tell of a query with the type: those of rewrites, and those of the query's referrals
+abbrev pub faults_by_ends : Labels → StraightEnds → RrType → List Fault
+faults_by_ends query ends rtype = told_with (told_of ends) rtype ++ faults_at query ends.faulty.items
 
 -- the walks of the query with the type go straight: they reach at most so many states, all zones that answer tell the
 -- same, and the query has the outcomes of these ends and shows their faults
@@ -79,9 +84,9 @@ pub record GoesStraight (setting : Setting) (deps : Deps) (most : ℕ) (query : 
   pub states : List State
   pub few : length states ≤ most
   pub begins : (state : State) → Contains (start setting.config query) state → Contains states state
-  pub steps : (state : State) → Contains states state → StepsStraight setting deps (faults_by_ends query ends) ends rtype states state
+  pub steps : (state : State) → Contains states state → StepsStraight setting deps (faults_by_ends query ends rtype) ends rtype states state
   pub told : (outcome : Option Leaf) → IsOutcomeOf ends rtype outcome → HasOutcome setting query rtype outcome
-  pub shown : (fault : Fault) → Contains (faults_by_ends query ends) fault → Shows (with_lists setting deps.least deps.greatest) query rtype fault
+  pub shown : (fault : Fault) → Contains (faults_by_ends query ends rtype) fault → Shows (with_lists setting deps.least deps.greatest) query rtype fault
   pub above : AreAbove query ends.faulty.items
 
 -- of the configured servers those of the least set are followed

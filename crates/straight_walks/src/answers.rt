@@ -1,12 +1,15 @@
 //! What servers answer to a query.
 
-ghost use Rattle.std.specs.Prelude.{◌≡◌, true, Some, None, option_map};
+ghost use Rattle.std.specs.Prelude.{◌≡◌, ◌||◌, true, not, is_some, Some, None, IfSome, option_map};
+ghost use Rattle.dns_data.specs.TypeSet.{has_bit};
 ghost use Rattle.dns_data.specs.declared.rr_type.RrType.{RrType as RrTypeValue};
 ghost use Rattle.graph_form.specs.FirstPath.{answer_eq};
-ghost use Rattle.straight_walks.specs.Answers.{alias_answering, answering_by, leaf_of, owner_with, sorted_data, zone_owner};
-ghost use Rattle.zone_tree.specs.Tree.{IsNode};
+ghost use Rattle.net_model.specs.Zone.{owns};
+ghost use Rattle.straight_walks.specs.Answers.{IsLast, alias_answering, answering_by, last_owner, outcome_with, owner_leaf, owner_with, sorted_data, zone_owner};
+ghost use Rattle.straight_walks.specs.Ends.{outcomes_alike};
+ghost use Rattle.zone_tree.specs.Tree.{IsNode, name_of};
 
-use dns_data::{Rdata, RrType};
+use dns_data::{Rdata, RrType, TypeSet};
 use std::marker::Model;
 use zone_tree::{NodeId, Tree};
 
@@ -49,6 +52,39 @@ impl<'h, 'a> Owner<'h, 'a> {
         Owner { tree, owner: None }
     }
 
+    /// The last owner to which aliases lead.
+    fn of_last(last: &LastOwner<'h, 'a>) -> Owner<'h, 'a>
+        requires { IsLast last.now }
+        ensures { result ≡ last_owner last.now }
+    {
+        Owner {
+            tree: last.tree,
+            owner: last.owner,
+        }
+    }
+
+    /// Whether both zones answer the same with each type.
+    fn is_same(&self, other: &Owner<'_, '_>) -> bool
+        ensures { result ≡ true → (rtype : RrTypeValue) → owner_leaf self.now rtype ≡ owner_leaf other.now rtype }
+    {
+        match (self.owner, other.owner) {
+            (Some(owner), Some(others)) => same_data(self.tree, owner, other.tree, others),
+            (None, None) => true,
+            _ => false,
+        }
+    }
+
+    /// Whether both zones answer the same with the type.
+    fn is_same_with(&self, other: &Owner<'_, '_>, rtype: RrType) -> bool
+        ensures { result ≡ answer_eq (owner_leaf self.now rtype) (owner_leaf other.now rtype) }
+    {
+        match (self.data(rtype), other.data(rtype)) {
+            (Some(found), Some(others)) => found == others,
+            (None, None) => true,
+            _ => false,
+        }
+    }
+
     /// The data of the type, or `None` where there is no such name.
     fn data(&self, rtype: RrType) -> Option<&[Rdata]>
         ensures { option_map (λ found. found.now) result ≡ option_map (λ owner. sorted_data self.now.zone owner rtype) self.now.owner }
@@ -60,13 +96,67 @@ impl<'h, 'a> Owner<'h, 'a> {
     }
 }
 
+/// Whether both nodes' names own the same data. Those of types of which neither owns any aren't looked for.
+fn same_data(one: &Tree<'_>, owner: NodeId, other: &Tree<'_>, others: NodeId) -> bool
+    requires owner { IsNode one.now owner }
+    requires others { IsNode other.now others }
+    ensures { result ≡ true → (rtype : RrTypeValue) → sorted_data one.now.zone (name_of one.now owner) rtype ≡ sorted_data other.now.zone (name_of other.now others) rtype }
+{
+    let types = one.types(owner).union(other.types(others));
+    for rtype in RrType::ALL.iter() {
+        if !same_of_type(one, owner, other, others, types, *rtype) {
+            return false;
+        }
+    }
+    true
+}
+
+/// Whether both nodes' names own the same data of a type, where these are the types of which either owns any.
+fn same_of_type(
+    one: &Tree<'_>,
+    owner: NodeId,
+    other: &Tree<'_>,
+    others: NodeId,
+    types: TypeSet,
+    rtype: RrType,
+) -> bool
+    requires owner { IsNode one.now owner }
+    requires others { IsNode other.now others }
+    requires types { (t : RrTypeValue) → has_bit types t ≡ (owns one.now.zone (name_of one.now owner) t || owns other.now.zone (name_of other.now others) t) }
+    ensures { result ≡ true → sorted_data one.now.zone (name_of one.now owner) rtype ≡ sorted_data other.now.zone (name_of other.now others) rtype }
+{
+    if !types.has(rtype) {
+        return true;
+    }
+    one.set(owner, rtype) == other.set(others, rtype)
+}
+
+/// The last owner to which aliases lead in a zone, or none where the zone has no such name.
+#[derive(Clone, Copy)]
+pub(crate) struct LastOwner<'h, 'a> {
+    pub tree: &'h Tree<'a>,
+    pub owner: Option<NodeId>,
+}
+
+/// Whether both last owners' zones answer the same with each type, or walks fail at both.
+fn same_last(one: &Option<Owner<'_, '_>>, other: &Option<Owner<'_, '_>>) -> bool
+    ensures { result ≡ true → (rtype : RrTypeValue)
+        → option_map (λ at. owner_leaf at rtype) one.now ≡ option_map (λ at. owner_leaf at rtype) other.now }
+{
+    match (one, other) {
+        (Some(one), Some(other)) => one.is_same(other),
+        (None, None) => true,
+        _ => false,
+    }
+}
+
 /// What a server answers to a query with each type: the data of an owner, or that there is no such name. Where the name
-/// is an alias its own data are answered with type CNAME, and with each other type those to which its aliases lead.
-/// Contracts see the zones and the owners' names.
+/// is an alias its own data are answered with type CNAME, and with each other type those to which its aliases lead; if
+/// walks fail there, none is. Contracts see the zones and the owners' names.
 #[derive(Drop)]
 pub struct ZoneAnswer<'h, 'a> {
     own: Owner<'h, 'a>,
-    last: Owner<'h, 'a>,
+    last: Option<Owner<'h, 'a>>,
 }
 
 impl<'h, 'a> Model for ZoneAnswer<'h, 'a> {
@@ -85,24 +175,29 @@ impl<'h, 'a> ZoneAnswer<'h, 'a> {
     {
         ZoneAnswer {
             own: Owner::of_node(tree, owner),
-            last: Owner::of_node(tree, owner),
+            last: Some(Owner::of_node(tree, owner)),
         }
     }
 
-    /// That this owner's name is an alias, and that aliases lead from it to the last owner.
+    /// That this owner's name is an alias, and that aliases lead from it to the last owner, or without one to failure.
     pub(crate) fn of_alias(
         tree: &'h Tree<'a>,
         owner: NodeId,
-        last_tree: &'h Tree<'a>,
-        last: NodeId,
+        last: &Option<LastOwner<'h, 'a>>,
     ) -> ZoneAnswer<'h, 'a>
         requires node { IsNode tree.now owner }
-        requires last { IsNode last_tree.now last }
-        ensures { result ≡ alias_answering tree.now owner last_tree.now last }
+        requires last { IfSome last.now IsLast }
+        ensures { result ≡ alias_answering tree.now owner (option_map last_owner last.now) }
     {
-        ZoneAnswer {
-            own: Owner::of_node(tree, owner),
-            last: Owner::of_node(last_tree, last),
+        match last {
+            Some(last) => ZoneAnswer {
+                own: Owner::of_node(tree, owner),
+                last: Some(Owner::of_last(last)),
+            },
+            None => ZoneAnswer {
+                own: Owner::of_node(tree, owner),
+                last: None,
+            },
         }
     }
 
@@ -112,41 +207,43 @@ impl<'h, 'a> ZoneAnswer<'h, 'a> {
     {
         ZoneAnswer {
             own: Owner::of_nothing(tree),
-            last: Owner::of_nothing(tree),
+            last: Some(Owner::of_nothing(tree)),
         }
     }
 
     /// Whether both servers are seen to answer the same with each type.
     pub(crate) fn is_same(&self, other: &ZoneAnswer<'_, '_>) -> bool
-        ensures { result ≡ true → (rtype : RrTypeValue) → leaf_of self.now rtype ≡ leaf_of other.now rtype }
+        ensures { result ≡ true → (rtype : RrTypeValue) → outcome_with self.now rtype ≡ outcome_with other.now rtype }
     {
-        for rtype in RrType::ALL.iter() {
-            if !self.is_same_with(other, *rtype) {
-                return false;
-            }
-        }
-        true
+        self.is_same_with(other, RrType::Cname) && same_last(&self.last, &other.last)
     }
 
-    /// Whether both servers answer the same with the type.
+    /// Whether both servers answer the same with the type, or walks fail at both.
     pub(crate) fn is_same_with(&self, other: &ZoneAnswer<'_, '_>, rtype: RrType) -> bool
-        ensures { result ≡ answer_eq (leaf_of self.now rtype) (leaf_of other.now rtype) }
+        ensures { result ≡ outcomes_alike (outcome_with self.now rtype) (outcome_with other.now rtype) }
     {
-        match (self.data(rtype), other.data(rtype)) {
-            (Some(found), Some(others)) => found == others,
+        match (self.owner_with(rtype), other.owner_with(rtype)) {
+            (Some(one), Some(other)) => one.is_same_with(other, rtype),
             (None, None) => true,
             _ => false,
         }
     }
 
-    /// The data that are answered with the type, or `None` where there is no such name.
-    fn data(&self, rtype: RrType) -> Option<&[Rdata]>
-        ensures { option_map (λ found. found.now) result ≡ option_map (λ owner. sorted_data (owner_with self.now rtype).zone owner rtype) (owner_with self.now rtype).owner }
+    /// Whether walks with the type fail.
+    pub(crate) fn fails_with(&self, rtype: RrType) -> bool
+        ensures { result ≡ not (is_some (outcome_with self.now rtype)) }
+    {
+        self.owner_with(rtype).is_none()
+    }
+
+    /// The owner whose data are answered with the type, or `None` where walks fail.
+    fn owner_with(&self, rtype: RrType) -> Option<&Owner<'h, 'a>>
+        ensures { option_map (λ owner. owner.now) result ≡ owner_with self.now rtype }
     {
         if rtype.number() == RrType::Cname.number() {
-            self.own.data(rtype)
+            Some(&self.own)
         } else {
-            self.last.data(rtype)
+            self.last.as_ref()
         }
     }
 }

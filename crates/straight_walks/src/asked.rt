@@ -11,4 +11,5 @@ pub(crate) struct Asked<'h, 'q, 'a> {
     pub sets: &'q LearntSets,
     pub table: &'q CutTable<'a>,
     pub name: &'q Name,
+    pub rewrites: u32,
 }

@@ -19,18 +19,20 @@
 //! comparisons, one of them for the server, where no origin of the server's stands between the query and its nearest
 //! origin, and what decides at the query is looked for. Where that is the query itself two or three comparisons of names
 //! more tell whether anything is below it by an asterisk label. Where it is an alias the same is done for its target, at
-//! the same server, and for no more than four aliases one behind the other. Where a DNAME record redirects the query, the
-//! name that it makes is made once, and the same is done for it and its aliases. Where several servers answer the query,
-//! their data are compared, type by type; nothing is looked for again, and so where ends are compared. Where one of these
-//! servers refers the query, the table is looked into, and each name server of the zone cut is looked for among the
-//! servers; if one is configured, or shows a fault, each is looked into as for an origin. All this takes no memory, but
-//! for a name that a DNAME record makes. Only where one of the zone cut's name servers is configured the states of the
-//! query's nearest origin are copied, once. The search goes on from there, over the states queued after that one and those
-//! at the servers to which it refers the query, and looks at no state twice. Where no origin is at or above the query, none
-//! of more than 32 top servers is looked at. No graph is made. Where each of these servers refers the query to servers
-//! elsewhere or holds no zone for it, its ends are those of the names below too, and where the others answer it by data of
-//! its own and have no wildcard below it, of the query with an unnamed tail: those take no search of their own. Whether an
-//! origin stands below a name takes three comparisons.
+//! the same server, and so on, for no more aliases one behind the other than a walk may be rewritten. Where a DNAME record
+//! redirects the query, the name that it makes is made once, and the same is done for it and its aliases. If the server has
+//! no name to which these lead, or they lead past the limit, 24 octets are taken for the place of the DNAME record, or 32
+//! for that of the last alias. Where several servers answer the query, their data are compared, type by type; nothing is
+//! looked for again, and so where ends are compared. Where one of these servers refers the query, the table is looked into,
+//! and each name server of the zone cut is looked for among the servers; if one is configured, or shows a fault, each is
+//! looked into as for an origin. All this takes no memory, but for a name that a DNAME record makes and for such a place.
+//! Only where one of the zone cut's name servers is configured the states of the query's nearest origin are copied, once.
+//! The search goes on from there, over the states queued after that one and those at the servers to which it refers the
+//! query, and looks at no state twice. Where no origin is at or above the query, none of more than 32 top servers is looked
+//! at. No graph is made. Where each of these servers refers the query to servers elsewhere or holds no zone for it, its
+//! ends are those of the names below too, and where the others answer it by data of its own and have no wildcard below it,
+//! of the query with an unnamed tail: those take no search of their own. Whether an origin stands below a name takes three
+//! comparisons.
 #![tactic(auto)]
 
 mod aliases;
@@ -40,6 +42,7 @@ mod asked;
 mod below;
 mod ends;
 mod faulty;
+mod lent_place;
 mod name_server;
 mod origins;
 mod queue;
@@ -54,5 +57,6 @@ mod straight;
 pub use answers::ZoneAnswer;
 pub use ends::StraightEnds;
 pub use faulty::{Faulty, ReferralFlags};
+pub use lent_place::{AliasFault, LentPlace};
 pub use regions::Regions;
 pub use straight::straight_ends;

@@ -63,7 +63,7 @@ pub(crate) fn next_referral<'h, 'a>(
                 ends.put_failing();
                 true
             }
-            reply => match put_answer(alloc, asked.hosts, one, asked.name, reply, ends) {
+            reply => match put_answer(alloc, asked, one, reply, ends) {
                 Ok(answered) => answered,
                 Err(NoMemory) => return NextReferral::NoMemory,
             },

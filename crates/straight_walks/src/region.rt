@@ -71,6 +71,7 @@ fn search_of_origin<'a>(
         sets,
         table,
         name: origin,
+        rewrites: 0,
     };
     let mut at = 0;
     while at < search.queue.len() {

@@ -1,7 +1,7 @@
 //! Whether the walks of a query go straight, and what they end in.
 
 ghost use Rattle.std.specs.Prelude.{◌≡◌, ◌<◌, ◌≤◌, ◌+◌, ◌*◌, ◌↔◌, ◌++◌, Option as Optional, IfOk, IfSome, length, true};
-ghost use Rattle.std.specs.List.{slice_get};
+ghost use Rattle.std.specs.List.{AllByRecursion, slice_get};
 ghost use Rattle.dns_data.specs.Name.{Labels};
 ghost use Rattle.dns_data.specs.declared.rr_type.RrType.{RrType as RrTypeValue};
 ghost use Rattle.net_model.specs.declared.walk.Leaf.{Leaf as LeafValue};
@@ -12,6 +12,7 @@ ghost use Rattle.net_model.specs.Tree.{HasMoreThan, IsReached};
 ghost use Rattle.net_model.specs.Walk.{IsBoundedWith};
 ghost use Rattle.straight_walks.specs.Ends.{IsOutcomeOf};
 ghost use Rattle.straight_walks.specs.Faulty.{ShowsThese};
+ghost use Rattle.straight_walks.specs.Nowhere.{HasLimit};
 ghost use Rattle.zone_lookup.specs.CutTable.{IsTableOf};
 ghost use Rattle.zone_lookup.specs.Reply.{IsReply};
 ghost use Rattle.straight_walks.specs.Searching.{HavePassed, GoesStraightIn, HoldsOfEachName};
@@ -22,12 +23,13 @@ ghost use Rattle.walk_laws.specs.Outcome.{HasOutcome};
 
 use crate::asked::Asked;
 use crate::ends::StraightEnds;
+use crate::lent_place::AliasFault;
 use crate::queue::Queue;
 use crate::referrals::{Referring, queue_referrals};
 use crate::referring::{NextReferral, next_referral};
 use crate::regions::Regions;
 use crate::searching::Search;
-use dns_data::{Name, NoMemory, RrType};
+use dns_data::{List, Name, NoMemory, RrType};
 use std::alloc::Global;
 use zone_lookup::{CutTable, Hosts, LearntSets};
 use zone_tree::{NodeId, Tree};
@@ -47,9 +49,9 @@ struct Limits {
 /// Each walk may use so many rewrites and follows the servers of the least set; the sets are the least and the greatest set
 /// of learnt addresses.
 ///
-/// Where ends are given the query shows the faults of their referrals and no others, with each type, and has the outcomes
-/// of these ends and no others. If the ends say `below`, each name below the query that has no origin of a zone between
-/// shows these faults and no others. If they say `unnamed_below`, the query with an unnamed tail does.
+/// Where ends are given the query shows with each type the faults that they tell with it and no others, and has the
+/// outcomes of these ends and no others. If the ends say `below`, each name below the query that has no origin of a zone
+/// between shows these faults and no others. If they say `unnamed_below`, the query with an unnamed tail does.
 ///
 /// The table and the regions are those of the same servers and sets. The query's region is looked for near a place first,
 /// whatever that is, and the place is left near which that of the next query may be looked for. With no type does a walk
@@ -92,6 +94,7 @@ pub fn straight_ends<'h, 'a>(
         sets,
         table,
         name: query,
+        rewrites,
     };
     ends_by_region(alloc, asked, regions, near, limits)
 }
@@ -154,6 +157,8 @@ fn ends_from<'h, 'a>(
         answer: None,
         fails: searched.fails,
         faulty: Vec::from_slice(alloc, searched.faulty.as_slice())?,
+        blackholes: List::new(alloc),
+        alias_faults: List::new(alloc),
         rewrites: 0,
         below: true,
         unnamed_below: true,
@@ -238,8 +243,8 @@ fn passes_referral<'h, 'a>(
     queue_referrals(asked, from, queue, &mut ends.fails, &mut ends.faulty)
 }
 
-/// The ends, where no walk is rewritten more often than it may be, and so many states are no more than may be looked
-/// at, with as many behind each of them as there are rewrites.
+/// The ends, where no walk is rewritten more often than it may be, each limit that they tell is this one, and so many
+/// states are no more than may be looked at, with as many behind each of them as there are rewrites.
 #[tactic(auto, using(crate::proofs::GivenEnds::times_fit))]
 fn ends_within<'h, 'a>(
     ends: StraightEnds<'h, 'a>,
@@ -249,9 +254,27 @@ fn ends_within<'h, 'a>(
     ensures same { IfSome result (λ found. found ≡ ends.entry) }
     ensures few { IfSome result (λ found. states * (ends.entry.rewrites + 1) ≤ limits.states) }
     ensures rewrites { IfSome result (λ found. ends.entry.rewrites ≤ limits.rewrites) }
+    ensures limits { IfSome result (λ found. AllByRecursion (HasLimit limits.rewrites) ends.entry.alias_faults) }
 {
-    if ends.rewrites <= limits.rewrites && states <= limits.states / (ends.rewrites as usize + 1) {
+    if ends.rewrites <= limits.rewrites
+        && states <= limits.states / (ends.rewrites as usize + 1)
+        && are_limits(ends.alias_faults.items(), limits.rewrites)
+    {
         return Some(ends);
     }
     None
+}
+
+/// Whether each limit that is told is this one.
+fn are_limits(faults: &[AliasFault<'_, '_>], rewrites: u32) -> bool
+    ensures { result ≡ true → AllByRecursion (HasLimit rewrites) faults.now }
+{
+    for one in faults {
+        if let Some(limit) = one.limit {
+            if limit != rewrites {
+                return false;
+            }
+        }
+    }
+    true
 }

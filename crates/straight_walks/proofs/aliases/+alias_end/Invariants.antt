@@ -1,6 +1,6 @@
 use Rattle.std.proofs.Common.{◌-◌}
 use Rattle.straight_walks.proofs.aliases.+alias_end.Given as goal
 
--- so many aliases more may be followed
+-- so many rewrites more may be used
 abbrev pub decreases-alias_end : goal.decreases-alias_end
-decreases-alias_end l = 5 - l.rewrites
+decreases-alias_end l = l.limit - l.used

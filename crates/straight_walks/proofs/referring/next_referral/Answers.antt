@@ -1,14 +1,17 @@
-use Rattle.std.proofs.Common.{◌≡◌, ℕ, ◌+◌, ◌*◌, ◌≤◌, length, Option, refl, sym, ◌∙◌, subst, arith}
+use Rattle.std.proofs.Common.{ℕ, ◌+◌, ◌*◌, ◌≤◌, List, length, Option, refl, sym, ◌∙◌, subst, arith}
 use Rattle.std.specs.Prelude.{IfSome}
 use Rattle.std.proofs.lemmas.Option.{slice_get_read}
 use Rattle.dns_data.specs.Name.{Labels}
 use Rattle.net_model.specs.declared.deps.Deps.{Deps}
 use Rattle.zone_lookup.specs.Reply.{IsReply}
+use Rattle.std.specs.List.{AllByRecursion}
+use Rattle.straight_walks.specs.Nowhere.{HasLimit}
 use Rattle.straight_walks.specs.Searching.{AreEndsFor}
+use Rattle.straight_walks.specs.declared.lent_place.AliasFault.{AliasFault}
 use Rattle.straight_walks.specs.declared.ends.StraightEnds.{StraightEnds}
 use Rattle.straight_walks.specs.declared.queue.Queued.{Queued}
 use Rattle.zone_lookup.specs.declared.reply.Reply.TheVariants as reply
-use Rattle.straight_walks.proofs.NamesBelow.{PassesFor, answer_for, ending_for, one_passed_for, outside_for, same_rewrites}
+use Rattle.straight_walks.proofs.NamesBelow.{PassesFor, answer_for, ending_for, one_passed_for, outside_for, same_told}
 use Rattle.straight_walks.proofs.StraightSearch.{all_passed}
 use Rattle.straight_walks.proofs.referring.next_referral.Goals as goal
 use Rattle.straight_walks.proofs.referring.next_referral.Goals.{in-Outside, in_default+in-Ok, in-Refers+else-not-all_end_outside}
@@ -54,8 +57,10 @@ loop-passed-preserved c =
     }
 
 pub returns : goal.returns
-returns c = λ deps so most few name found of setting is enough rtype.
+returns c = λ deps so rewrites most fewer limits few name found of.
     let ends = c.loop-passed.ends in
-    let same : found.rewrites ≡ ends.rewrites = same_rewrites c.args.asked.hosts.now deps c.args.asked.name.now ends name found of in
-    all_passed c.args.asked.hosts.now deps name c.args.queue.now c.loop-passed.passed most found (c.loop-passed.invariant.searched deps so name found of)
-    (omega (arith, c.loop-passed-test.false)) (subst (λ (n : ℕ). length c.args.queue.now * (n + 1) ≤ most) (sym same) few) setting is (omega (arith, same, enough)) rtype
+    let same = same_told c.args.asked.hosts.now deps c.args.asked.name.now ends name found of in
+    all_passed c.args.asked.hosts.now deps name c.args.queue.now c.loop-passed.passed rewrites most found (c.loop-passed.invariant.searched deps so name found of)
+    (omega (arith, c.loop-passed-test.false)) (omega (arith, same.0, fewer))
+    (subst (λ (all : List AliasFault). AllByRecursion (HasLimit rewrites) all) (sym same.1) limits)
+    (subst (λ (n : ℕ). length c.args.queue.now * (n + 1) ≤ most) (sym same.0) few)

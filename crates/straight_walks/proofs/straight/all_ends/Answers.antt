@@ -33,5 +33,5 @@ returns-in-Ends c =
     let ends = c.next_referral.new.ends in
     let all_end = subst (λ (all : List Queued). IsNextReferral config query all c.loop-alloc.passed ends_before ends referring.Ends) c.as_slice.ensures c.in-Ends.ensures in
     let len_is : c.len-in-Ends.result ≡ length queue = omega (arith, c.len-in-Ends.ensures) in
-    given_within config deps query c.args.limits.rewrites c.args.limits.states (c.args.limits.states + length config.tops) c.len-in-Ends.result ends c.ends_within.result c.ends_within.ensures.same c.ends_within.ensures.few c.ends_within.ensures.rewrites
-    (λ few. all_end deps c.loop-alloc.invariant c.args.limits.states (subst (λ (n : ℕ). n * (ends.rewrites + 1) ≤ c.args.limits.states) len_is few))
+    given_within config deps query c.args.limits.rewrites c.args.limits.states (c.args.limits.states + length config.tops) c.len-in-Ends.result ends c.ends_within.result c.ends_within.ensures.same c.ends_within.ensures.few c.ends_within.ensures.rewrites c.ends_within.ensures.limits
+    (λ fewer limits few. all_end deps c.loop-alloc.invariant c.args.limits.rewrites c.args.limits.states fewer limits (subst (λ (n : ℕ). n * (ends.rewrites + 1) ≤ c.args.limits.states) len_is few))

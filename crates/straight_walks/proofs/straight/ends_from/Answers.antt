@@ -23,9 +23,9 @@ passes_referral-requires-clause-passed c =
     subst (λ (all : List Queued). HavePassed c.args.asked.hosts.now c.args.asked.sets.now c.args.asked.name.now all c.in-Refers.passed c.next_referral.new.ends)
     (sym (c.of-queue.ensures ∙ c.in_ok-from_slice-in-Refers.ensures.items))
     (c.in-Refers.ensures.3 c.args.asked.sets.now
-    (subst (λ (all : List Queued). HavePassed c.args.asked.hosts.now c.args.asked.sets.now c.args.asked.name.now all c.args.searched.now.passed (unanswered c.args.searched.now.fails c.in_ok-from_slice.field-0))
+    (subst (λ (all : List Queued). HavePassed c.args.asked.hosts.now c.args.asked.sets.now c.args.asked.name.now all c.args.searched.now.passed (record (unanswered c.args.searched.now.fails c.in_ok-from_slice.field-0) { blackholes = c.new.result; alias_faults = c.new-2.result }))
     (sym c.as_slice-queue.ensures.value)
-    (begun c.args.asked.hosts.now c.args.asked.sets.now c.args.asked.name.now c.args.searched.now c.in_ok-from_slice.field-0 (c.in_ok-from_slice.ensures.items ∙ c.as_slice.ensures.value) c.requires.searched)))
+    (begun c.args.asked.hosts.now c.args.asked.sets.now c.args.asked.name.now c.args.searched.now c.in_ok-from_slice.field-0 (c.in_ok-from_slice.ensures.items ∙ c.as_slice.ensures.value) c.new.result c.new.ensures c.new-2.result c.new-2.ensures c.requires.searched)))
 
 pub all_ends-requires-clause-passed : goal.all_ends-requires-clause-passed
 all_ends-requires-clause-passed c = c.in_ok-passes_referral-in-Refers.ensures c.if-not-branch.false
@@ -35,8 +35,8 @@ returns-in-Ends c =
     let config = c.args.asked.hosts.now in
     let deps = c.args.asked.sets.now in
     let query = c.args.asked.name.now in
-    given_within config deps query c.args.limits.rewrites c.args.limits.states (c.args.limits.states + length config.tops) (length c.as_slice-queue.result.now) c.next_referral.new.ends c.ends_within.result c.ends_within.ensures.same c.ends_within.ensures.few c.ends_within.ensures.rewrites
-    (λ few. c.in-Ends.ensures deps
-    (subst (λ (all : List Queued). HavePassed config deps query all c.args.searched.now.passed (unanswered c.args.searched.now.fails c.in_ok-from_slice.field-0)) (sym c.as_slice-queue.ensures.value)
-    (begun config deps query c.args.searched.now c.in_ok-from_slice.field-0 (c.in_ok-from_slice.ensures.items ∙ c.as_slice.ensures.value) c.requires.searched))
-    c.args.limits.states few)
+    given_within config deps query c.args.limits.rewrites c.args.limits.states (c.args.limits.states + length config.tops) (length c.as_slice-queue.result.now) c.next_referral.new.ends c.ends_within.result c.ends_within.ensures.same c.ends_within.ensures.few c.ends_within.ensures.rewrites c.ends_within.ensures.limits
+    (λ fewer limits few. c.in-Ends.ensures deps
+    (subst (λ (all : List Queued). HavePassed config deps query all c.args.searched.now.passed (record (unanswered c.args.searched.now.fails c.in_ok-from_slice.field-0) { blackholes = c.new.result; alias_faults = c.new-2.result })) (sym c.as_slice-queue.ensures.value)
+    (begun config deps query c.args.searched.now c.in_ok-from_slice.field-0 (c.in_ok-from_slice.ensures.items ∙ c.as_slice.ensures.value) c.new.result c.new.ensures c.new-2.result c.new-2.ensures c.requires.searched))
+    c.args.limits.rewrites c.args.limits.states fewer limits few)

@@ -2,7 +2,7 @@ use Rattle.std.proofs.Common.{List, Bor, sym, ap, ◌∙◌}
 use Rattle.std.specs.Prelude.{option_map}
 use Rattle.dns_data.specs.declared.rdata.Rdata.{Rdata}
 use Rattle.straight_walks.proofs.SameOutcomes.{compared_by_data}
-use Rattle.straight_walks.proofs.answers.ZoneAnswer.is_same_with.Goals as goal
+use Rattle.straight_walks.proofs.answers.Owner.is_same_with.Goals as goal
 
 pub returns-in-Some-Some : goal.returns-in-Some-Some
 returns-in-Some-Some c =
