@@ -1,4 +1,5 @@
 pub mod Budgets
 pub mod CountedNames
 pub mod JudgedTrees
+mod LiveNexts
 pub mod PassedNames

@@ -4,12 +4,30 @@ ghost use Rattle.std.specs.Prelude.{◌≡◌, ◌||◌, [], ◌++◌, reverse, 
 ghost use Rattle.net_model.specs.Tree.{HasMoreThan, IsInPart};
 ghost use Rattle.report_run.specs.Counted.{EndsPast, config_redirects, is_redirect, server_redirects, zone_redirects};
 
+use crate::bounds::may_pass;
 use dns_data::{List, NoMemory, Rdata, Rr};
 use label_graph::{LabelGraph, laws};
 use net_model::{Config, Server, Zone};
 use query_classes::{LiveName, TreeFault};
 use run_endings::Ending;
 use std::alloc::Global;
+
+/// Counts the names of the class tree of a configuration's graph where its DNAME records may give it more than the limit,
+/// so that none is judged where there are: it is `Err` where so many were counted, or where memory ran out. Where the
+/// records alone show that there are no more, none is counted.
+pub(crate) fn count_where_many(
+    alloc: Global,
+    config: &Config,
+    graph: &LabelGraph,
+    limit: u32,
+) -> Result<(), Ending>
+    ensures { IfErr result (EndsPast (IsInPart graph.now []) limit) }
+{
+    match may_pass(alloc, config, graph, limit) {
+        Ok(may_pass) => count_redirected(alloc, may_pass, graph, limit),
+        Err(NoMemory) => Err(Ending::no_memory()),
+    }
+}
 
 /// Counts the names of the class tree of a graph where DNAME records may multiply them, so that none is judged where there
 /// are more than the limit: it is `Err` where so many were counted, or where memory ran out. Without such a record none is

@@ -6,7 +6,7 @@ ghost use Rattle.query_verdicts.specs.Queries.{most_states};
 ghost use Rattle.query_verdicts.specs.Subjects.{IsCovering};
 ghost use Rattle.report_run.specs.Judged.{AreLimits, IsJudged};
 
-use crate::counting::{config_redirects, count_redirected};
+use crate::counting::count_where_many;
 use crate::states::too_many_states;
 use class_judge::{Judge, JudgeFault, Naming, laws};
 use dns_data::NoMemory;
@@ -86,12 +86,7 @@ pub fn counted<N: Naming + Send + Sync, K: Kept + Drop, G: Gate + Sync, R: Threa
     requires covering { IsCovering N.subject }
     ensures { IsJudged limits.classes N.subject K.kept_of result }
 {
-    match count_redirected(
-        alloc,
-        config_redirects(config),
-        judge.base_names(),
-        limits.classes,
-    ) {
+    match count_where_many(alloc, config, judge.base_names(), limits.classes) {
         Ok(()) => report_by_judge(rt, alloc, judge, limits, gate),
         Err(ending) => Err(ending),
     }

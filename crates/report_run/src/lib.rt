@@ -5,10 +5,13 @@
 //! `report_by_judge` of that of a judge's subject, the same for every number of workers and every schedule; each error is
 //! the ending of a run that has too many names, or else a query with too many states, or of one for which memory ran out.
 //!
-//! Costs: those of the judge, of its work and of the pool. Where a DNAME record may multiply the names of the class tree,
-//! they are counted before one is judged, and no counted name is kept.
+//! Costs: those of the judge, of its work and of the pool. Where DNAME records may give the class tree of a configuration
+//! more names than the limit, they are counted before one is judged, and no counted name is kept. Whether they may is told
+//! by the fronts of the owners and by the names below each target, which are counted once for records of one target that
+//! follow each other.
 #![tactic(auto)]
 
+mod bounds;
 mod counting;
 mod judging;
 mod states;
