@@ -1,5 +1,5 @@
 -- The zones of known rows, where rows are taken: what is left of them.
-use Rattle.std.proofs.Common.{◌≡◌, ℕ, ◌-◌, ◌≤◌, List, Contains, Option, Some, None, slice_get, refl, sym, ap, ◌∙◌, subst}
+use Rattle.std.proofs.Common.{◌≡◌, ℕ, ◌-◌, ◌≤◌, Bool, List, Contains, Option, Some, None, slice_get, refl, sym, ap, ◌∙◌, subst}
 use Rattle.std.specs.Prelude.{option_and_then}
 use Rattle.std.specs.List.{find}
 use Rattle.std.specs.Option.{option_map}
@@ -11,7 +11,7 @@ use Rattle.meta_read.specs.declared.meta.MetaRow.{MetaRow}
 use Rattle.net_model.specs.Nearest.{zone_with_origin}
 use Rattle.net_model.specs.declared.config.Server.{Server}
 use Rattle.net_model.specs.declared.config.Zone.{Zone}
-use Rattle.config_load.specs.Conf.{row_files}
+use Rattle.config_load.specs.Conf.{row_files, row_skips}
 use Rattle.config_load.specs.Earlier.{IsAlike, IsZoneNamed, WasRead}
 use Rattle.config_load.specs.Hosted.{held_in}
 use Rattle.config_load.specs.Left.{IsReadLeft, rows_left, zones_in}
@@ -32,12 +32,12 @@ held_there servers name origin zone is = by (find (λ (server : Server). name_eq
       flat_map_has (λ (s : Server). s.zones) servers server zone (found_there (λ (s : Server). name_eq s.name name) servers server e).0
       (found_there (λ (z : Zone). name_eq z.origin origin) server.zones zone got).0
 
-module _ (meta : List ℕ) (told : FilesTold) (all : List MetaRow) (row : MetaRow) (left : Zone → Zone) (origin_is : (zone : Zone) → (left zone).origin ≡ zone.origin)
+module _ (skips : Labels → Bool) (meta : List ℕ) (told : FilesTold) (all : List MetaRow) (row : MetaRow) (left : Zone → Zone) (origin_is : (zone : Zone) → (left zone).origin ≡ zone.origin)
     (whole rows : ReadRows) (are : rows ≡ rows_left left whole) (known : EarlierRow) (named : RowFiles) (again : ReadZone)
-    (each : (earlier : MetaRow) → slice_get all known.row ≡ Some earlier → WasRead meta told earlier whole known) (alike : IsAlike all known.row row)
+    (each : (earlier : MetaRow) → slice_get all known.row ≡ Some earlier → WasRead (row_skips skips) meta told earlier whole known) (alike : IsAlike all known.row row)
     (there : slice_get rows.rows known.row ≡ Some named) (records : known.records ≤ rows.left.records) (includes : known.includes ≤ rows.left.includes)
     (is : IsZoneNamed known named rows again) where
-  abbrev was : WasRead meta told alike.earlier whole known
+  abbrev was : WasRead (row_skips skips) meta told alike.earlier whole known
   was = each alike.earlier alike.there
 
   named_there : slice_get whole.rows known.row ≡ Some named
@@ -67,12 +67,12 @@ module _ (meta : List ℕ) (told : FilesTold) (all : List MetaRow) (row : MetaRo
     left = is.left ∙ ap (λ (r : ReadRows). record r.left { records = r.left.records - known.records; includes = r.left.includes - known.includes }) are;
   }
 
-  -- what is left of the zone of a known row is what is left of what reading gives for a row of its file and origin, if as much
-  -- may be read still as was read
-  pub known_left : IsReadLeft meta told row left whole again
+  -- what is left of the zone of a known row is what is left of what reading gives for a row of its file and origin, if as
+  -- much may be read still as was read
+  pub known_left : IsReadLeft (row_skips skips) meta told row left whole again
   known_left = record {
     read = read;
-    reads = known_again meta told all row whole known named read each alike named_there
+    reads = known_again skips meta told all row whole known named read each alike named_there
         (subst (λ (r : ReadRows). known.records ≤ r.left.records) are records) (subst (λ (r : ReadRows). known.includes ≤ r.left.includes) are includes) its;
     is = λ i. record { zone = sym zone_is i; names = again.names; left = again.left };
     there = held_there whole.servers named.server named.origin was.read.zone held;

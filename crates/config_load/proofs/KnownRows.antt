@@ -1,5 +1,5 @@
 -- Rows whose zones were read, and how their zones are found for later rows.
-use Rattle.std.proofs.Common.{◌≡◌, ◌≢◌, ℕ, zero, suc, ◌+◌, ◌-◌, ◌≤◌, Bool, true, false, cond, List, [], ◌∷◌, ◌++◌, length, slice_get, AllPairs, Contains, Option, Some, None, Result, Ok, Err, IfOk, is_eq, if◌then◌else◌, refl, sym, ap, ◌∙◌, subst}
+use Rattle.std.proofs.Common.{◌≡◌, ◌≢◌, ℕ, zero, suc, ◌+◌, ◌-◌, ◌≤◌, Bool, true, false, cond, List, [], ◌∷◌, ◌++◌, length, slice_get, AllPairs, Contains, Option, Some, None, Result, Ok, Err, IfOk, is_eq, if◌then◌else◌, refl, sym, ap, ◌∙◌, subst, inl, inr}
 use Rattle.std.specs.Prelude.{IfSome, option_and_then}
 use Rattle.std.specs.BTreeMap as map
 use Rattle.std.specs.BTreeMap.{is_at}
@@ -19,8 +19,8 @@ use Rattle.net_model.specs.Configured.{AreConsistent, KeepsWithin}
 use Rattle.net_model.specs.Nearest.{zone_with_origin}
 use Rattle.net_model.specs.declared.config.Server.{Server}
 use Rattle.net_model.specs.declared.config.Zone.{Zone}
-use Rattle.config_load.specs.Conf.{row_files, with_row, zone_read}
-use Rattle.config_load.specs.Earlier.{AreEarlier, HasPut, IsAlike, IsZoneNamed, WasRead}
+use Rattle.config_load.specs.Conf.{row_files, row_skips, with_row_unless, zone_unless}
+use Rattle.config_load.specs.Earlier.{AreEarlier, HasPut, HasPutAtMost, IsAlike, IsZoneNamed, WasRead}
 use Rattle.config_load.specs.Hosted.{held_in, server_place, zones_of}
 use Rattle.config_load.specs.Reading.{Reads}
 use Rattle.config_load.specs.Servers.{has_zone, with_zone}
@@ -30,9 +30,9 @@ use Rattle.config_load.specs.declared.limits.Limits.{Limits}
 use Rattle.config_load.specs.declared.loaded.RowFiles.{RowFiles}
 use Rattle.config_load.specs.declared.rows.ReadRows.{ReadRows}
 use Rattle.config_load.specs.declared.zone.ReadZone.{ReadZone}
-use Rattle.config_load.proofs.ReadAgain.{left_by, zone_again}
-use Rattle.config_load.proofs.RowsRead.{GivenRow, left_as_long, row_given}
-use Rattle.config_load.proofs.Steady.{reads_later, zone_is_steady}
+use Rattle.config_load.proofs.ReadAgain.{left_by, unless_again}
+use Rattle.config_load.proofs.RowsRead.{GivenRow, row_given, unless_as_long}
+use Rattle.config_load.proofs.Steady.{reads_later, unless_is_steady}
 use Rattle.config_load.proofs.ZonesGiven.{held_new, held_stays, turned}
 
 module _ {X : Type 0} where
@@ -121,16 +121,16 @@ same_origin (Some a) None e = absurd cc
 same_origin (Some a) (Some b) e = ap Some ((name_eq_decides a b).0 e)
 
 -- the zone of a known row is what reading gives for a row of its file and origin, if as much may be read still as was read
-pub known_again : (meta : List ℕ) (told : FilesTold) (all : List MetaRow) (row : MetaRow) (rows : ReadRows) (known : EarlierRow) (named : RowFiles) (again : ReadZone)
-    → ((earlier : MetaRow) → slice_get all known.row ≡ Some earlier → WasRead meta told earlier rows known) → IsAlike all known.row row → slice_get rows.rows known.row ≡ Some named
-    → known.records ≤ rows.left.records → known.includes ≤ rows.left.includes → IsZoneNamed known named rows again → zone_read meta row rows.left told ≡ Reads again
-known_again meta told all row rows known named again each alike there records includes is =
-    zone_again meta alike.earlier row was.left rows.left told was.read was.reads alike.file alike.origin (sym was.as_long)
+pub known_again : (skips : Labels → Bool) (meta : List ℕ) (told : FilesTold) (all : List MetaRow) (row : MetaRow) (rows : ReadRows) (known : EarlierRow) (named : RowFiles) (again : ReadZone)
+    → ((earlier : MetaRow) → slice_get all known.row ≡ Some earlier → WasRead (row_skips skips) meta told earlier rows known) → IsAlike all known.row row → slice_get rows.rows known.row ≡ Some named
+    → known.records ≤ rows.left.records → known.includes ≤ rows.left.includes → IsZoneNamed known named rows again → zone_unless (row_skips skips) meta row rows.left told ≡ Reads again
+known_again skips meta told all row rows known named again each alike there records includes is =
+    unless_again skips meta alike.earlier row was.left rows.left told was.read was.reads alike.file alike.origin (sym was.as_long)
     (subst (λ n. n ≤ rows.left.records) was.records records) (subst (λ n. n ≤ rows.left.includes) was.includes includes)
     ∙ (λ i. Reads (record { zone = zone i; names = names i; left = left_by rows.left (sym was.records i) (sym was.includes i) }))
     ∙ ap (λ (left : Limits). Reads (record { zone = again.zone; names = again.names; left = left })) (sym is.left)
   where
-    was : WasRead meta told alike.earlier rows known
+    was : WasRead (row_skips skips) meta told alike.earlier rows known
     was = each alike.earlier alike.there
 
     same : row_files alike.earlier.server was.read ≡ named
@@ -148,15 +148,15 @@ known_again meta told all row rows known named again each alike there records in
 abbrev with_one : MetaRow → ReadZone → ReadRows → ReadRows
 with_one row read rows = record { left = read.left; servers = with_zone row.server read.zone rows.servers; rows = rows.rows ++ row_files row.server read ∷ [] }
 
-module _ (meta : List ℕ) (told : FilesTold) (rows : ReadRows) (row : MetaRow) (read : ReadZone) (reads : zone_read meta row rows.left told ≡ Reads read)
+module _ (skips : MetaRow → Bool) (meta : List ℕ) (told : FilesTold) (rows : ReadRows) (row : MetaRow) (read : ReadZone) (reads : zone_unless skips meta row rows.left told ≡ Reads read)
     (new : has_zone row.server read.zone.origin rows.servers ≡ false) where
   -- a row that was read is one still, when another was read
-  still_read : (before : FilesTold) (other : MetaRow) (known : EarlierRow) → StaysTold before told → WasRead meta before other rows known → WasRead meta told other (with_one row read rows) known
+  still_read : (before : FilesTold) (other : MetaRow) (known : EarlierRow) → StaysTold before told → WasRead skips meta before other rows known → WasRead skips meta told other (with_one row read rows) known
   still_read before other known stays was = record {
     left = was.left;
-    as_long = was.as_long ∙ sym (left_as_long meta told row rows.left read reads);
+    as_long = was.as_long ∙ sym (unless_as_long meta told skips row rows.left read reads);
     read = was.read;
-    reads = reads_later (zone_is_steady meta other was.left) before told was.read stays was.reads;
+    reads = reads_later (unless_is_steady skips meta other was.left) before told was.read stays was.reads;
     named = at_more rows.rows (row_files row.server read ∷ []) known.row (row_files other.server was.read) was.named;
     held = held_stays row.server read.zone rows.servers new other.server was.read.zone.origin was.read.zone was.held;
     records = was.records;
@@ -165,10 +165,10 @@ module _ (meta : List ℕ) (told : FilesTold) (rows : ReadRows) (row : MetaRow) 
 
   -- the row itself was read
   now_read : (known : EarlierRow) → known.row ≡ length rows.rows → known.records ≡ rows.left.records - read.left.records → known.includes ≡ rows.left.includes - read.left.includes
-      → WasRead meta told row (with_one row read rows) known
+      → WasRead skips meta told row (with_one row read rows) known
   now_read known at records includes = record {
     left = rows.left;
-    as_long = sym (left_as_long meta told row rows.left read reads);
+    as_long = sym (unless_as_long meta told skips row rows.left read reads);
     read = read;
     reads = reads;
     named = ap (slice_get (rows.rows ++ row_files row.server read ∷ [])) at ∙ at_last rows.rows (row_files row.server read);
@@ -178,42 +178,50 @@ module _ (meta : List ℕ) (told : FilesTold) (rows : ReadRows) (row : MetaRow) 
   }
 
 -- the known rows with one more, which was read
-pub earlier_more : (meta : List ℕ) (all : List MetaRow) (before told : FilesTold) (number place : ℕ) (row : MetaRow) (rows after : ReadRows) (old new : EarlierRows) → StaysTold before told
-    → AreEarlier meta before all rows old → length rows.rows ≡ place → slice_get all place ≡ Some row → with_row meta number row rows told ≡ Reads after → HasPut place rows.left after.left old new
-    → AreEarlier meta told all after new
-earlier_more meta all before told number place row rows after old new stays are count there reads put key known is other at =
-    subst (λ (a : ReadRows). WasRead meta told other a known) one.made (by (is_at (nat_cmp put.number) key) (sym (put.updates.0 key) ∙ is))
+pub earlier_more : (skips : MetaRow → Bool) (meta : List ℕ) (all : List MetaRow) (before told : FilesTold) (number place : ℕ) (row : MetaRow) (rows after : ReadRows) (old new : EarlierRows) → StaysTold before told
+    → AreEarlier skips meta before all rows old → length rows.rows ≡ place → slice_get all place ≡ Some row → with_row_unless skips meta number row rows told ≡ Reads after → HasPutAtMost place rows.left after.left old new
+    → AreEarlier skips meta told all after new
+earlier_more skips meta all before told number place row rows after old new stays are count there reads put key known is other at =
+    subst (λ (a : ReadRows). WasRead skips meta told other a known) one.made (elim put [
+      | inl same ↦ earlier_stays (ap (λ (e : EarlierRows). map.get nat_cmp e.by_number key) (sym same) ∙ is)
+      | inr more ↦ by more (is_at (nat_cmp more.number) key) (sym (more.updates.0 key) ∙ is)
+    ])
   where
-    one : GivenRow meta told row rows after
-    one = row_given meta told number row rows after reads
+    one : GivenRow skips meta told row rows after
+    one = row_given meta told skips number row rows after reads
 
-    fresh : EarlierRow
-    fresh = record { row = place; zone = put.zone; records = rows.left.records - after.left.records; includes = rows.left.includes - after.left.includes }
+    fresh : ℕ → EarlierRow
+    fresh zone = record { row = place; zone = zone; records = rows.left.records - after.left.records; includes = rows.left.includes - after.left.includes }
+
+    earlier_stays : map.get nat_cmp old.by_number key ≡ Some known → WasRead skips meta told other (with_one row one.read rows) known
+    earlier_stays e = still_read skips meta told rows row one.read one.reads one.new before other known stays (are key known e other at)
 
     left : one.read.left ≡ after.left
     left = ap (λ (a : ReadRows). a.left) one.made
 
-    by : (same : Bool) → cond same (Some fresh) (map.get nat_cmp old.by_number key) ≡ Some known → WasRead meta told other (with_one row one.read rows) known
-    by true e =
-        let last : fresh ≡ known = cc in
+    by : (put : HasPut place rows.left after.left old new) (same : Bool)
+        → cond same (Some (fresh put.zone)) (map.get nat_cmp old.by_number key) ≡ Some known
+        → WasRead skips meta told other (with_one row one.read rows) known
+    by put true e =
+        let last : fresh put.zone ≡ known = cc in
         let at_place : place ≡ known.row = ap (λ (k : EarlierRow). k.row) last in
         let its : Some row ≡ Some other = sym there ∙ ap (slice_get all) at_place ∙ at in
         let this : row ≡ other = cc in
-        subst (λ (r : MetaRow). WasRead meta told r (with_one row one.read rows) known) this
-        (now_read meta told rows row one.read one.reads one.new known (sym at_place ∙ sym count)
+        subst (λ (r : MetaRow). WasRead skips meta told r (with_one row one.read rows) known) this
+        (now_read skips meta told rows row one.read one.reads one.new known (sym at_place ∙ sym count)
         (ap (λ (k : EarlierRow). k.records) (sym last) ∙ ap (λ (l : Limits). rows.left.records - l.records) (sym left))
         (ap (λ (k : EarlierRow). k.includes) (sym last) ∙ ap (λ (l : Limits). rows.left.includes - l.includes) (sym left)))
-    by false e = still_read meta told rows row one.read one.reads one.new before other known stays (are key known e other at)
+    by put false e = earlier_stays e
 
 -- a row that was read is one row more
-pub rows_count : (meta : List ℕ) (told : FilesTold) (number : ℕ) (row : MetaRow) (rows after : ReadRows) → with_row meta number row rows told ≡ Reads after → length after.rows ≡ length rows.rows + 1
-rows_count meta told number row rows after reads =
-    let one = row_given meta told number row rows after reads in
+pub rows_count : (skips : MetaRow → Bool) (meta : List ℕ) (told : FilesTold) (number : ℕ) (row : MetaRow) (rows after : ReadRows) → with_row_unless skips meta number row rows told ≡ Reads after → length after.rows ≡ length rows.rows + 1
+rows_count skips meta told number row rows after reads =
+    let one = row_given meta told skips number row rows after reads in
     ap (λ (a : ReadRows). length a.rows) (sym one.made) ∙ length-append rows.rows (row_files row.server one.read ∷ [])
 
 -- no row is known where there is no entry
-pub none_earlier : (meta : List ℕ) (told : FilesTold) (all : List MetaRow) (rows : ReadRows) (earlier : EarlierRows) → map.IsEmpty earlier.by_number → AreEarlier meta told all rows earlier
-none_earlier meta told all rows earlier empty number known is =
+pub none_earlier : (skips : MetaRow → Bool) (meta : List ℕ) (told : FilesTold) (all : List MetaRow) (rows : ReadRows) (earlier : EarlierRows) → map.IsEmpty earlier.by_number → AreEarlier skips meta told all rows earlier
+none_earlier skips meta told all rows earlier empty number known is =
     let none : None ≡ Some known = ap (λ (entries : List (ℕ × EarlierRow)). lookup (λ (key : ℕ). is_eq (nat_cmp number key)) entries) (sym empty) ∙ is in
     absurd cc
 

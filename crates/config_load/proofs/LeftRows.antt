@@ -12,7 +12,7 @@ use Rattle.meta_read.specs.declared.meta.MetaRow.{MetaRow}
 use Rattle.net_model.specs.Nearest.{zone_with_origin}
 use Rattle.net_model.specs.declared.config.Server.{Server}
 use Rattle.net_model.specs.declared.config.Zone.{Zone}
-use Rattle.config_load.specs.Conf.{no_rows, with_row, with_rows, zone_read}
+use Rattle.config_load.specs.Conf.{no_rows, with_row_unless, with_rows_unless, zone_unless}
 use Rattle.config_load.specs.Earlier.{AreEarlier}
 use Rattle.config_load.specs.Follows.{ByTold, Follows}
 use Rattle.config_load.specs.Hosted.{held_in}
@@ -260,22 +260,22 @@ module _ {A : Type 0} {told told' : FilesTold} {counts counts' : List ℕ → �
 
 -- the rows so far were read, and the others follow; those that are known are among them; this is left of them, and their
 -- zones were taken
-pub record StandSoFar (meta : List ℕ) (all : List MetaRow) (limits : Limits) (told told' : FilesTold) (counts counts' : List ℕ → ℕ)
+pub record StandSoFar (skips : MetaRow → Bool) (meta : List ℕ) (all : List MetaRow) (limits : Limits) (told told' : FilesTold) (counts counts' : List ℕ → ℕ)
     (left : Zone → Zone) (took : List Zone → Type 0) (i : ℕ) (rows : ReadRows) (earlier : EarlierRows) : Type 0 where
   pub whole : ReadRows
-  pub so_far : Follows told' (with_rows meta 1 all (no_rows limits)) (with_rows meta (i + 1) (drop i all) whole)
-  pub source : ReadsFor told told' counts counts' (with_rows meta 1 all (no_rows limits))
-  pub earlier_are : AreEarlier meta told' all whole earlier
+  pub so_far : Follows told' (with_rows_unless skips meta 1 all (no_rows limits)) (with_rows_unless skips meta (i + 1) (drop i all) whole)
+  pub source : ReadsFor told told' counts counts' (with_rows_unless skips meta 1 all (no_rows limits))
+  pub earlier_are : AreEarlier skips meta told' all whole earlier
   pub count : length whole.rows ≡ i
   pub is : rows ≡ rows_left left whole
   pub taken : AreTaken took (zones_in whole.servers)
 
 -- a row's zone that was read, and whose server may have it, answers the reading of the row
-pub HasLeft-row : {told told' : FilesTold} {counts counts' : List ℕ → ℕ} (meta : List ℕ) (number : ℕ) (row : MetaRow) (whole : ReadRows) (read : ReadZone) (left : Zone → Zone) (took : List Zone → Type 0)
+pub HasLeft-row : {told told' : FilesTold} {counts counts' : List ℕ → ℕ} (skips : MetaRow → Bool) (meta : List ℕ) (number : ℕ) (row : MetaRow) (whole : ReadRows) (read : ReadZone) (left : Zone → Zone) (took : List Zone → Type 0)
     (origin_is : (zone : Zone) → (left zone).origin ≡ zone.origin) (taken : AreTaken took (zones_in whole.servers ++ read.zone ∷ [])) (result : Result ReadRows LoadFault)
-    → (let answer : Result ReadZone LoadFault = Ok read in HasAnswered told told' counts counts' (zone_read meta row whole.left) answer)
+    → (let answer : Result ReadZone LoadFault = Ok read in HasAnswered told told' counts counts' (zone_unless skips meta row whole.left) answer)
     → AnswersOr NoMemory result (row_read number row.server (read_left left read) (rows_left left whole))
-    → HasLeft told told' counts counts' (with_row meta number row whole) (rows_left left) (λ (all : ReadRows). AreTaken took (zones_in all.servers)) result
-HasLeft-row meta number row whole read left took origin_is taken result answered said =
+    → HasLeft told told' counts counts' (with_row_unless skips meta number row whole) (rows_left left) (λ (all : ReadRows). AreTaken took (zones_in all.servers)) result
+HasLeft-row skips meta number row whole read left took origin_is taken result answered said =
     let one = row_answer left origin_is number row.server read whole took taken result said in
-    record { whole = one.whole; answered = HasAnswered-read meta number row whole read one.whole answered one.answers; is = one.is }
+    record { whole = one.whole; answered = HasAnswered-read skips meta number row whole read one.whole answered one.answers; is = one.is }

@@ -8,6 +8,7 @@ pub mod OwnRefusals
 pub mod ReadRows
 pub mod ServerPlaces
 pub mod Sources
+pub mod ShortFiles
 pub mod Steady
 pub mod Steps
 mod KnownLeft
@@ -19,4 +20,5 @@ mod SmallerLimits
 mod TakenRows
 mod Worked
 pub mod RowsRead
+pub mod SkippedRows
 pub mod ZonesGiven

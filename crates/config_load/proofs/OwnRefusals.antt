@@ -20,7 +20,7 @@ use Rattle.zone_rules.specs.ZoneOf.{zone_of}
 use Rattle.zone_rules.specs.declared.fault.RuleFault.{RuleFault}
 use Rattle.zone_rules.specs.declared.fault.RuleFault.TheVariants as rule_faults
 use Rattle.zone_rules.proofs.OwnFaults.{IsOwn as IsRuleFault, zone_own}
-use Rattle.config_load.specs.Conf.{settled, files_behind, zone_files, zone_read, with_row, with_rows, no_rows, metadata, conf_within}
+use Rattle.config_load.specs.Conf.{settled, files_behind, zone_files, zone_read, with_row, with_row_unless, with_rows, with_rows_unless, no_rows, metadata, conf_unless, conf_within}
 use Rattle.config_load.specs.Faults.{of_metadata, of_text, of_rule}
 use Rattle.config_load.specs.Joined.{joined}
 use Rattle.config_load.specs.Limits.{most_octets}
@@ -107,7 +107,7 @@ given_own : (number : ℕ) (name : Labels) (zone : Zone) (servers : List Server)
 given_own number name zone servers = if_err_either IsOwn (has_zone name zone.origin servers) _ _ tt tt
 
 row_own : (meta : List ℕ) (number : ℕ) (row : MetaRow) (rows : ReadRows) (told : FilesTold) → RefusesOwn (with_row meta number row rows told)
-unfolding with_row
+unfolding with_row_unless
 row_own meta number row rows told =
     own_then (zone_read meta row rows.left told) _ (zone_read_own meta row rows.left told)
     (λ read. own_then (unless_refused (λ fault. fault) (given number row.server read.zone rows.servers)) _
@@ -115,7 +115,7 @@ row_own meta number row rows told =
     (λ servers. tt))
 
 rows_own : (meta : List ℕ) (number : ℕ) (more : List MetaRow) (rows : ReadRows) (told : FilesTold) → RefusesOwn (with_rows meta number more rows told)
-unfolding with_rows
+unfolding with_rows_unless
 rows_own meta number [] rows told = tt
 rows_own meta number (row ∷ more) rows told =
     own_then (with_row meta number row rows told) _ (row_own meta number row rows told) (λ next. rows_own meta (number + 1) more next told)
@@ -138,7 +138,7 @@ metadata_read_own limits meta told =
 
 -- the refusal of a configuration's files says something of them
 pub conf_own : (limits : Limits) (meta : List ℕ) (told : FilesTold) → RefusesOwn (conf_within limits meta told)
-unfolding conf_within
+unfolding conf_unless
 conf_own limits meta told =
     own_then (metadata limits meta told) _ (metadata_read_own limits meta told)
     (λ found. own_then (with_rows meta 1 found.rows (no_rows limits) told) _ (rows_own meta 1 found.rows (no_rows limits) told) (λ rows. tt))

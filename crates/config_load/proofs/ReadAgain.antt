@@ -1,5 +1,6 @@
 -- A zone's files that are read once more, where all that they told is told still: the same zone.
-use Rattle.std.proofs.Common.{◌≡◌, ◌≢◌, ℕ, zero, suc, ◌+◌, ◌-◌, ◌≤◌, ◌⊎◌, List, [], ◌∷◌, ◌++◌, length, unwrap_or, Result, Ok, Err, if◌then◌else◌, nat_le, refl, sym, ap, ◌∙◌, inl, inr, append_assoc, arith}
+use Rattle.std.proofs.Common.{◌≡◌, ◌≢◌, ℕ, zero, suc, ◌+◌, ◌-◌, ◌≤◌, ◌⊎◌, Bool, true, false, List, [], ◌∷◌, ◌++◌, length, unwrap_or, Option, Result, Ok, Err, if◌then◌else◌, nat_le, refl, sym, ap, ◌∙◌, inl, inr, append_assoc, arith}
+use Rattle.std.specs.Option.{option_map_or}
 use Rattle.std.specs.Prelude.{min}
 use Rattle.std.proofs.lemmas.List.{append-nil, length-append}
 use Rattle.dns_data.specs.Name.{Labels}
@@ -10,7 +11,7 @@ use Rattle.master_read.specs.declared.zone_text.ZoneText.{ZoneText}
 use Rattle.meta_read.specs.declared.meta.MetaRow.{MetaRow}
 use Rattle.net_model.specs.declared.config.Zone.{Zone}
 use Rattle.zone_rules.specs.ZoneOf.{zone_of}
-use Rattle.config_load.specs.Conf.{settled, files_behind, zone_files, zone_read, left_behind}
+use Rattle.config_load.specs.Conf.{settled, files_behind, row_skips, zone_files, zone_read, zone_skipped, zone_unless, left_behind}
 use Rattle.config_load.specs.Faults.{of_rule}
 use Rattle.config_load.specs.Follows.{ByTold, StopsEarly, Follows}
 use Rattle.config_load.specs.Joined.{joined}
@@ -27,7 +28,7 @@ use Rattle.config_load.proofs.OpenedFiles.{files_behind-asks, files_behind-gives
 use Rattle.config_load.proofs.RowsRead.{read_on}
 use Rattle.config_load.proofs.SmallerLimits.{texts_again}
 use Rattle.config_load.proofs.Sources.{HasAnswered-looked}
-use Rattle.config_load.proofs.Steady.{reads_later, zone_is_steady}
+use Rattle.config_load.proofs.Steady.{reads_later, unless_is_steady}
 
 -- ---- what is read by what is told is read by all that tells no other
 
@@ -85,12 +86,12 @@ module _ {A : Type 0} where
         let here : late ≡ name = same_name (sym stopped' ∙ stopped) in
         absurd (some' (ap other here ∙ sym (both-told (told name) (other name) some) ∙ none))
 
--- a row's zone that is read by what is told answers the reading of the row's zone, without a file being read
-pub HasAnswered-again : (meta : List ℕ) (row : MetaRow) (left : Limits) (told : FilesTold) (counts : List ℕ → ℕ) (read : ReadZone) → zone_read meta row left told ≡ Reads read
-    → (let answer : Result ReadZone LoadFault = Ok read in HasAnswered told told counts counts (zone_read meta row left) answer)
-HasAnswered-again meta row left told counts read is =
+-- a row's zone that is read by what is told, or skipped, answers the reading of the row's zone, without a file being read
+pub HasAnswered-again : (skips : MetaRow → Bool) (meta : List ℕ) (row : MetaRow) (left : Limits) (told : FilesTold) (counts : List ℕ → ℕ) (read : ReadZone) → zone_unless skips meta row left told ≡ Reads read
+    → (let answer : Result ReadZone LoadFault = Ok read in HasAnswered told told counts counts (zone_unless skips meta row left) answer)
+HasAnswered-again skips meta row left told counts read is =
     let answer : Result ReadZone LoadFault = Ok read in
-    HasAnswered-looked told counts (zone_read meta row left) answer tt (Follows-read (zone_read meta row left) (zone_is_steady meta row left) told read is)
+    HasAnswered-looked told counts (zone_unless skips meta row left) answer tt (Follows-read (zone_unless skips meta row left) (unless_is_steady skips meta row left) told read is)
 
 -- ---- with other limits
 
@@ -201,3 +202,31 @@ zone_again meta row later left other told read e file origin as_long records inc
   where
     behind : Limits → ZoneFiles → Zone → Reading ReadZone
     behind left files zone = Reads (record { zone = zone; names = files.names; left = left_behind left files.text })
+
+-- so is one that may be skipped: then nothing was read
+pub unless_again : (skips : Labels → Bool) (meta : List ℕ) (row later : MetaRow) (left other : Limits) (told : FilesTold) (read : ReadZone)
+    → zone_unless (row_skips skips) meta row left told ≡ Reads read → row.file ≡ later.file → row.origin ≡ later.origin → other.octets ≡ left.octets
+    → left.records - read.left.records ≤ other.records → left.includes - read.left.includes ≤ other.includes
+    → zone_unless (row_skips skips) meta later other told
+    ≡ Reads (record { zone = read.zone; names = read.names; left = left_by other (left.records - read.left.records) (left.includes - read.left.includes) })
+unless_again skips meta row later left other told read e file origin as_long records includes =
+    by (row_skips skips row) (ap (λ (given : Option Labels). option_map_or skips given false) origin) e
+  where
+    again : Reading ReadZone
+    again = Reads (record { zone = read.zone; names = read.names; left = left_by other (left.records - read.left.records) (left.includes - read.left.includes) })
+
+    by : (skip : Bool) → skip ≡ row_skips skips later → (if skip then Reads (zone_skipped row left) else zone_read meta row left told) ≡ Reads read
+        → zone_unless (row_skips skips) meta later other told ≡ again
+    by true same is =
+        let read_is : zone_skipped row left ≡ read = cc in
+        let origin_is : unwrap_or row.origin [] ≡ unwrap_or later.origin [] = ap (λ (given : Option Labels). unwrap_or given []) origin in
+        let none_read : left.records - read.left.records ≡ 0 = ap (λ (r : ReadZone). left.records - r.left.records) (sym read_is) ∙ omega arith in
+        let none_included : left.includes - read.left.includes ≡ 0 = ap (λ (r : ReadZone). left.includes - r.left.includes) (sym read_is) ∙ omega arith in
+        let all_records : other.records ≡ other.records - 0 = omega arith in
+        let all_includes : other.includes ≡ other.includes - 0 = omega arith in
+        ap (λ (b : Bool). if b then Reads (zone_skipped later other) else zone_read meta later other told) (sym same)
+        ∙ (λ i. Reads (record { zone = record { origin = sym origin_is i; rrs = [] }; names = []; left = record other { records = all_records i; includes = all_includes i } }))
+        ∙ (λ i. Reads (record { zone = (read_is i).zone; names = (read_is i).names; left = left_by other (sym none_read i) (sym none_included i) }))
+    by false same is =
+        ap (λ (b : Bool). if b then Reads (zone_skipped later other) else zone_read meta later other told) (sym same)
+        ∙ zone_again meta row later left other told read is file origin as_long records includes

@@ -1,5 +1,5 @@
 -- Zones, rows and the configuration, step by step.
-use Rattle.std.proofs.Common.{◌≡◌, ℕ, ◌+◌, List, ◌∷◌, Result, Ok, Err, IsErrAnd, refl, sym, ap, subst, inl, inr}
+use Rattle.std.proofs.Common.{◌≡◌, ℕ, ◌+◌, Bool, List, ◌∷◌, Result, Ok, Err, IsErrAnd, refl, sym, ap, subst, inl, inr}
 use Rattle.dns_data.proofs.Answers.{if_err_answered, if_err_either}
 use Rattle.dns_data.specs.Answers.{AnswersOr, with_fault}
 use Rattle.dns_data.specs.Name.{Labels}
@@ -11,7 +11,7 @@ use Rattle.net_model.specs.declared.config.Config.{Config}
 use Rattle.net_model.specs.declared.config.Server.{Server}
 use Rattle.net_model.specs.declared.config.Zone.{Zone}
 use Rattle.zone_rules.specs.ZoneOf.{zone_of}
-use Rattle.config_load.specs.Conf.{conf_within, loaded_within, metadata, no_rows, with_row, with_rows, zone_files, zone_read, left_behind}
+use Rattle.config_load.specs.Conf.{conf_unless, loaded_unless, metadata, no_rows, with_row_unless, with_rows_unless, zone_files, zone_read, zone_unless, left_behind}
 use Rattle.config_load.specs.Faults.{of_metadata, of_rule}
 use Rattle.config_load.specs.Follows.{ByTold, Follows}
 use Rattle.config_load.specs.Reading.{Reading, Reads, Refuses, Misses, Unknown, ◌>>=◌, unless_refused, file_octets}
@@ -88,43 +88,43 @@ abbrev behind_zone : ℕ → MetaRow → ReadRows → FilesTold → ReadZone →
 behind_zone number row rows told read =
     unless_refused (λ fault. fault) (given number row.server read.zone rows.servers) >>= λ servers. Reads (with_servers row.server read rows servers)
 
-module _ (meta : List ℕ) (number : ℕ) (row : MetaRow) (rows : ReadRows) where
+module _ (skips : MetaRow → Bool) (meta : List ℕ) (number : ℕ) (row : MetaRow) (rows : ReadRows) where
   -- the fault of a row's zone answers the reading of the row
-  pub HasAnswered-no_row : {told told' : FilesTold} {counts counts' : List ℕ → ℕ} (fault : LoadFault) (result : Result ReadRows LoadFault) → IsErrAnd result (λ passed. passed ≡ fault) → (let answer : Result ReadZone LoadFault = Err fault in HasAnswered told told' counts counts' (zone_read meta row rows.left) answer) → HasAnswered told told' counts counts' (with_row meta number row rows) result
-  unfolding with_row
-  HasAnswered-no_row fault result is read = HasAnswered-passed (zone_read meta row rows.left) (behind_zone number row rows) fault result is read
+  pub HasAnswered-no_row : {told told' : FilesTold} {counts counts' : List ℕ → ℕ} (fault : LoadFault) (result : Result ReadRows LoadFault) → IsErrAnd result (λ passed. passed ≡ fault) → (let answer : Result ReadZone LoadFault = Err fault in HasAnswered told told' counts counts' (zone_unless skips meta row rows.left) answer) → HasAnswered told told' counts counts' (with_row_unless skips meta number row rows) result
+  unfolding with_row_unless
+  HasAnswered-no_row fault result is read = HasAnswered-passed (zone_unless skips meta row rows.left) (behind_zone number row rows) fault result is read
 
   -- if memory runs out behind a row's zone, `NoMemory` answers the reading of the row
-  pub HasAnswered-row_wanting : {told told' : FilesTold} {counts counts' : List ℕ → ℕ} (read : ReadZone) (result : Result ReadRows LoadFault) → IsErrAnd result (λ fault. fault ≡ NoMemory) → (let answer : Result ReadZone LoadFault = Ok read in HasAnswered told told' counts counts' (zone_read meta row rows.left) answer) → HasAnswered told told' counts counts' (with_row meta number row rows) result
-  unfolding with_row
+  pub HasAnswered-row_wanting : {told told' : FilesTold} {counts counts' : List ℕ → ℕ} (read : ReadZone) (result : Result ReadRows LoadFault) → IsErrAnd result (λ fault. fault ≡ NoMemory) → (let answer : Result ReadZone LoadFault = Ok read in HasAnswered told told' counts counts' (zone_unless skips meta row rows.left) answer) → HasAnswered told told' counts counts' (with_row_unless skips meta number row rows) result
+  unfolding with_row_unless
   HasAnswered-row_wanting read result wants whole =
-      HasAnswered-wanting result (ReadsFor-bind (zone_read meta row rows.left) (behind_zone number row rows) whole.source) wants
+      HasAnswered-wanting result (ReadsFor-bind (zone_unless skips meta row rows.left) (behind_zone number row rows) whole.source) wants
 
   -- a row whose server already has the zone is answered with that fault
-  pub HasAnswered-not_given : {told told' : FilesTold} {counts counts' : List ℕ → ℕ} (read : ReadZone) (fault : LoadFault) (result : Result ReadRows LoadFault) → IsErrAnd result (λ passed. passed ≡ fault) → (let answer : Result ReadZone LoadFault = Ok read in HasAnswered told told' counts counts' (zone_read meta row rows.left) answer) → (let answer : Result (List Server) LoadFault = Err fault in AnswersOr NoMemory answer (given number row.server read.zone rows.servers)) → HasAnswered told told' counts counts' (with_row meta number row rows) result
-  unfolding with_row
+  pub HasAnswered-not_given : {told told' : FilesTold} {counts counts' : List ℕ → ℕ} (read : ReadZone) (fault : LoadFault) (result : Result ReadRows LoadFault) → IsErrAnd result (λ passed. passed ≡ fault) → (let answer : Result ReadZone LoadFault = Ok read in HasAnswered told told' counts counts' (zone_unless skips meta row rows.left) answer) → (let answer : Result (List Server) LoadFault = Err fault in AnswersOr NoMemory answer (given number row.server read.zone rows.servers)) → HasAnswered told told' counts counts' (with_row_unless skips meta number row rows) result
+  unfolding with_row_unless
   HasAnswered-not_given {told' = told'} {counts' = counts'} read fault result is whole answered =
       let refused : Result (List Server) LoadFault = Err fault in
-      HasAnswered-next (zone_read meta row rows.left) read (behind_zone number row rows) result whole
+      HasAnswered-next (zone_unless skips meta row rows.left) read (behind_zone number row rows) result whole
       (HasAnswered-passed (λ _. unless_refused (λ fault. fault) (given number row.server read.zone rows.servers)) (λ _ servers. Reads (with_servers row.server read rows servers)) fault result is
       (HasAnswered-given told' counts' number row.server read.zone rows.servers refused answered))
 
   -- a zone that its server doesn't have yet answers the reading of the row
-  pub HasAnswered-row : {told told' : FilesTold} {counts counts' : List ℕ → ℕ} (read : ReadZone) (servers : List Server) → (let answer : Result ReadZone LoadFault = Ok read in HasAnswered told told' counts counts' (zone_read meta row rows.left) answer) → (let answer : Result (List Server) LoadFault = Ok servers in AnswersOr NoMemory answer (given number row.server read.zone rows.servers)) → (let answer : Result ReadRows LoadFault = Ok (with_servers row.server read rows servers) in HasAnswered told told' counts counts' (with_row meta number row rows) answer)
-  unfolding with_row
+  pub HasAnswered-row : {told told' : FilesTold} {counts counts' : List ℕ → ℕ} (read : ReadZone) (servers : List Server) → (let answer : Result ReadZone LoadFault = Ok read in HasAnswered told told' counts counts' (zone_unless skips meta row rows.left) answer) → (let answer : Result (List Server) LoadFault = Ok servers in AnswersOr NoMemory answer (given number row.server read.zone rows.servers)) → (let answer : Result ReadRows LoadFault = Ok (with_servers row.server read rows servers) in HasAnswered told told' counts counts' (with_row_unless skips meta number row rows) answer)
+  unfolding with_row_unless
   HasAnswered-row {told' = told'} {counts' = counts'} read servers whole answered =
       let more : Result (List Server) LoadFault = Ok servers in
       let answer : Result ReadRows LoadFault = Ok (with_servers row.server read rows servers) in
-      HasAnswered-next (zone_read meta row rows.left) read (behind_zone number row rows) answer whole
+      HasAnswered-next (zone_unless skips meta row rows.left) read (behind_zone number row rows) answer whole
       (HasAnswered-next (λ _. unless_refused (λ fault. fault) (given number row.server read.zone rows.servers)) servers (λ _ servers. Reads (with_servers row.server read rows servers)) answer
       (HasAnswered-given told' counts' number row.server read.zone rows.servers more answered)
       (reads told' counts' (with_servers row.server read rows servers)))
 
   -- a row whose zone was read is answered by whether its server is given the zone
-  pub HasAnswered-read : {told told' : FilesTold} {counts counts' : List ℕ → ℕ} (read : ReadZone) (result : Result ReadRows LoadFault) → (let answer : Result ReadZone LoadFault = Ok read in HasAnswered told told' counts counts' (zone_read meta row rows.left) answer) → AnswersOr NoMemory result (row_read number row.server read rows) → HasAnswered told told' counts counts' (with_row meta number row rows) result
+  pub HasAnswered-read : {told told' : FilesTold} {counts counts' : List ℕ → ℕ} (read : ReadZone) (result : Result ReadRows LoadFault) → (let answer : Result ReadZone LoadFault = Ok read in HasAnswered told told' counts counts' (zone_unless skips meta row rows.left) answer) → AnswersOr NoMemory result (row_read number row.server read rows) → HasAnswered told told' counts counts' (with_row_unless skips meta number row rows) result
   HasAnswered-read {told} {told'} {counts} {counts'} read result whole answered = by (given number row.server read.zone rows.servers) refl result answered where
     goal_of : Result ReadRows LoadFault → Type 0
-    goal_of r = HasAnswered told told' counts counts' (with_row meta number row rows) r
+    goal_of r = HasAnswered told told' counts counts' (with_row_unless skips meta number row rows) r
 
     by : (said : Result (List Server) LoadFault) → given number row.server read.zone rows.servers ≡ said → (r : Result ReadRows LoadFault)
         → AnswersOr NoMemory r (if_given row.server read rows said) → goal_of r
@@ -136,30 +136,30 @@ module _ (meta : List ℕ) (number : ℕ) (row : MetaRow) (rows : ReadRows) wher
     by (Err refused) is (Err fault) (inl free) = HasAnswered-row_wanting read (Err fault) free whole
     by (Err refused) is (Err fault) (inr same) = HasAnswered-not_given read refused (Err fault) (sym (err_same same)) whole (inr is)
 
-module _ (meta : List ℕ) (number : ℕ) (row : MetaRow) (others : List MetaRow) (rows : ReadRows) where
+module _ (skips : MetaRow → Bool) (meta : List ℕ) (number : ℕ) (row : MetaRow) (others : List MetaRow) (rows : ReadRows) where
   -- the fault of a row answers the reading of it and the rows behind it
-  pub HasAnswered-first_row : {told told' : FilesTold} {counts counts' : List ℕ → ℕ} (fault : LoadFault) (result : Result ReadRows LoadFault) → IsErrAnd result (λ passed. passed ≡ fault) → (let answer : Result ReadRows LoadFault = Err fault in HasAnswered told told' counts counts' (with_row meta number row rows) answer) → HasAnswered told told' counts counts' (with_rows meta number (row ∷ others) rows) result
-  unfolding with_rows
-  HasAnswered-first_row fault result is read = HasAnswered-passed (with_row meta number row rows) (λ t rows. with_rows meta (number + 1) others rows t) fault result is read
+  pub HasAnswered-first_row : {told told' : FilesTold} {counts counts' : List ℕ → ℕ} (fault : LoadFault) (result : Result ReadRows LoadFault) → IsErrAnd result (λ passed. passed ≡ fault) → (let answer : Result ReadRows LoadFault = Err fault in HasAnswered told told' counts counts' (with_row_unless skips meta number row rows) answer) → HasAnswered told told' counts counts' (with_rows_unless skips meta number (row ∷ others) rows) result
+  unfolding with_rows_unless
+  HasAnswered-first_row fault result is read = HasAnswered-passed (with_row_unless skips meta number row rows) (λ t rows. with_rows_unless skips meta (number + 1) others rows t) fault result is read
 
   -- files that are read for a row are read for it and the rows behind it
-  pub ReadsFor-first_row : {told told' : FilesTold} {counts counts' : List ℕ → ℕ} → ReadsFor told told' counts counts' (with_row meta number row rows) → ReadsFor told told' counts counts' (with_rows meta number (row ∷ others) rows)
-  unfolding with_rows
-  ReadsFor-first_row source = ReadsFor-bind (with_row meta number row rows) (λ t rows. with_rows meta (number + 1) others rows t) source
+  pub ReadsFor-first_row : {told told' : FilesTold} {counts counts' : List ℕ → ℕ} → ReadsFor told told' counts counts' (with_row_unless skips meta number row rows) → ReadsFor told told' counts counts' (with_rows_unless skips meta number (row ∷ others) rows)
+  unfolding with_rows_unless
+  ReadsFor-first_row source = ReadsFor-bind (with_row_unless skips meta number row rows) (λ t rows. with_rows_unless skips meta (number + 1) others rows t) source
 
   -- if a row is read, the reading of it and the rows behind it goes on with those rows
-  pub Follows-first_row : (told : FilesTold) (more : ReadRows) → Follows told (with_row meta number row rows) (λ _. Reads more) → Follows told (with_rows meta number (row ∷ others) rows) (with_rows meta (number + 1) others more)
-  unfolding with_rows
+  pub Follows-first_row : (told : FilesTold) (more : ReadRows) → Follows told (with_row_unless skips meta number row rows) (λ _. Reads more) → Follows told (with_rows_unless skips meta number (row ∷ others) rows) (with_rows_unless skips meta (number + 1) others more)
+  unfolding with_rows_unless
   Follows-first_row told more whole =
-      Follows-bind told (with_row meta number row rows) (λ _. Reads more) (λ t rows. with_rows meta (number + 1) others rows t) whole
+      Follows-bind told (with_row_unless skips meta number row rows) (λ _. Reads more) (λ t rows. with_rows_unless skips meta (number + 1) others rows t) whole
 
 -- the configuration of metadata and rows, with the rows
 abbrev loaded_of : Metadata → ReadRows → Loaded
 loaded_of found rows = record { config = record { tops = found.tops; servers = rows.servers }; rows = rows.rows }
 
 -- how the reading of a configuration goes on behind the metadata
-abbrev behind_metadata : Limits → List ℕ → FilesTold → Metadata → Reading Loaded
-behind_metadata limits meta told found = with_rows meta 1 found.rows (no_rows limits) told >>= λ rows. Reads (loaded_of found rows)
+abbrev behind_metadata : (MetaRow → Bool) → Limits → List ℕ → FilesTold → Metadata → Reading Loaded
+behind_metadata skips limits meta told found = with_rows_unless skips meta 1 found.rows (no_rows limits) told >>= λ rows. Reads (loaded_of found rows)
 
 module _ (limits : Limits) (meta : List ℕ) where
   -- the fault of a metadata file that isn't read answers the reading of the metadata
@@ -174,30 +174,31 @@ module _ (limits : Limits) (meta : List ℕ) where
       HasAnswered-next (file_octets limits meta) octets (λ _ octets. unless_refused of_metadata (metadata_within limits.rows octets)) result whole
       (HasAnswered-told told' counts' of_metadata (metadata_within limits.rows octets) result IsNoRead-of_metadata answered)
 
+module _ (skips : MetaRow → Bool) (limits : Limits) (meta : List ℕ) where
   -- the fault of metadata that don't read answers the reading of the configuration
-  pub HasAnswered-no_metadata : {told told' : FilesTold} {counts counts' : List ℕ → ℕ} (fault : LoadFault) (result : Result Loaded LoadFault) → IsErrAnd result (λ passed. passed ≡ fault) → (let answer : Result Metadata LoadFault = Err fault in HasAnswered told told' counts counts' (metadata limits meta) answer) → HasAnswered told told' counts counts' (loaded_within limits meta) result
-  unfolding loaded_within
-  HasAnswered-no_metadata fault result is read = HasAnswered-passed (metadata limits meta) (behind_metadata limits meta) fault result is read
+  pub HasAnswered-no_metadata : {told told' : FilesTold} {counts counts' : List ℕ → ℕ} (fault : LoadFault) (result : Result Loaded LoadFault) → IsErrAnd result (λ passed. passed ≡ fault) → (let answer : Result Metadata LoadFault = Err fault in HasAnswered told told' counts counts' (metadata limits meta) answer) → HasAnswered told told' counts counts' (loaded_unless skips limits meta) result
+  unfolding loaded_unless
+  HasAnswered-no_metadata fault result is read = HasAnswered-passed (metadata limits meta) (behind_metadata skips limits meta) fault result is read
 
   -- the fault of rows that don't read answers the reading of the configuration
-  pub HasAnswered-no_rows : {before between after : FilesTold} {counts counts' counts'' : List ℕ → ℕ} (found : Metadata) (fault : LoadFault) (result : Result Loaded LoadFault) → IsErrAnd result (λ passed. passed ≡ fault) → (let answer : Result Metadata LoadFault = Ok found in HasAnswered before between counts counts' (metadata limits meta) answer) → (let answer : Result ReadRows LoadFault = Err fault in HasAnswered between after counts' counts'' (with_rows meta 1 found.rows (no_rows limits)) answer) → HasAnswered before after counts counts'' (loaded_within limits meta) result
-  unfolding loaded_within
+  pub HasAnswered-no_rows : {before between after : FilesTold} {counts counts' counts'' : List ℕ → ℕ} (found : Metadata) (fault : LoadFault) (result : Result Loaded LoadFault) → IsErrAnd result (λ passed. passed ≡ fault) → (let answer : Result Metadata LoadFault = Ok found in HasAnswered before between counts counts' (metadata limits meta) answer) → (let answer : Result ReadRows LoadFault = Err fault in HasAnswered between after counts' counts'' (with_rows_unless skips meta 1 found.rows (no_rows limits)) answer) → HasAnswered before after counts counts'' (loaded_unless skips limits meta) result
+  unfolding loaded_unless
   HasAnswered-no_rows found fault result is whole read =
-      HasAnswered-next (metadata limits meta) found (behind_metadata limits meta) result whole
-      (HasAnswered-passed (with_rows meta 1 found.rows (no_rows limits)) (λ _ rows. Reads (loaded_of found rows)) fault result is read)
+      HasAnswered-next (metadata limits meta) found (behind_metadata skips limits meta) result whole
+      (HasAnswered-passed (with_rows_unless skips meta 1 found.rows (no_rows limits)) (λ _ rows. Reads (loaded_of found rows)) fault result is read)
 
   -- the metadata and the rows answer the reading of the configuration, with the rows
-  pub HasAnswered-loaded : {before between after : FilesTold} {counts counts' counts'' : List ℕ → ℕ} (found : Metadata) (rows : ReadRows) → (let answer : Result Metadata LoadFault = Ok found in HasAnswered before between counts counts' (metadata limits meta) answer) → (let answer : Result ReadRows LoadFault = Ok rows in HasAnswered between after counts' counts'' (with_rows meta 1 found.rows (no_rows limits)) answer) → (let answer : Result Loaded LoadFault = Ok (loaded_of found rows) in HasAnswered before after counts counts'' (loaded_within limits meta) answer)
-  unfolding loaded_within
+  pub HasAnswered-loaded : {before between after : FilesTold} {counts counts' counts'' : List ℕ → ℕ} (found : Metadata) (rows : ReadRows) → (let answer : Result Metadata LoadFault = Ok found in HasAnswered before between counts counts' (metadata limits meta) answer) → (let answer : Result ReadRows LoadFault = Ok rows in HasAnswered between after counts' counts'' (with_rows_unless skips meta 1 found.rows (no_rows limits)) answer) → (let answer : Result Loaded LoadFault = Ok (loaded_of found rows) in HasAnswered before after counts counts'' (loaded_unless skips limits meta) answer)
+  unfolding loaded_unless
   HasAnswered-loaded {after = after} {counts'' = counts''} found rows whole all =
       let answer : Result Loaded LoadFault = Ok (loaded_of found rows) in
-      HasAnswered-next (metadata limits meta) found (behind_metadata limits meta) answer whole
-      (HasAnswered-next (with_rows meta 1 found.rows (no_rows limits)) rows (λ _ rows. Reads (loaded_of found rows)) answer all
+      HasAnswered-next (metadata limits meta) found (behind_metadata skips limits meta) answer whole
+      (HasAnswered-next (with_rows_unless skips meta 1 found.rows (no_rows limits)) rows (λ _ rows. Reads (loaded_of found rows)) answer all
       (reads after counts'' (loaded_of found rows)))
 
   -- the configuration that is read is that of the configuration with its rows
-  pub conf-loaded : (told : FilesTold) → conf_within limits meta told ≡ (loaded_within limits meta told >>= λ all. Reads all.config)
-  unfolding conf_within loaded_within
+  pub conf-loaded : (told : FilesTold) → conf_unless skips limits meta told ≡ (loaded_unless skips limits meta told >>= λ all. Reads all.config)
+  unfolding conf_unless loaded_unless
   conf-loaded told = by (metadata limits meta told) where
     on : (found : Metadata) → (read : Reading ReadRows)
         → (read >>= λ rows. Reads (record { tops = found.tops; servers = rows.servers })) ≡ ((read >>= λ rows. Reads (loaded_of found rows)) >>= λ all. Reads all.config)
@@ -207,22 +208,22 @@ module _ (limits : Limits) (meta : List ℕ) where
     on found (Unknown file) = refl
 
     by : (read : Reading Metadata)
-        → (read >>= λ found. with_rows meta 1 found.rows (no_rows limits) told >>= λ rows. Reads (record { tops = found.tops; servers = rows.servers }))
-        ≡ ((read >>= behind_metadata limits meta told) >>= λ all. Reads all.config)
-    by (Reads found) = on found (with_rows meta 1 found.rows (no_rows limits) told)
+        → (read >>= λ found. with_rows_unless skips meta 1 found.rows (no_rows limits) told >>= λ rows. Reads (record { tops = found.tops; servers = rows.servers }))
+        ≡ ((read >>= behind_metadata skips limits meta told) >>= λ all. Reads all.config)
+    by (Reads found) = on found (with_rows_unless skips meta 1 found.rows (no_rows limits) told)
     by (Refuses fault) = refl
     by (Misses file) = refl
     by (Unknown file) = refl
 
   -- the fault of the configuration with its rows answers the reading of the configuration
-  pub HasAnswered-no_config : {told told' : FilesTold} {counts counts' : List ℕ → ℕ} (fault : LoadFault) (result : Result Config LoadFault) → IsErrAnd result (λ passed. passed ≡ fault) → (let answer : Result Loaded LoadFault = Err fault in HasAnswered told told' counts counts' (loaded_within limits meta) answer) → HasAnswered told told' counts counts' (conf_within limits meta) result
+  pub HasAnswered-no_config : {told told' : FilesTold} {counts counts' : List ℕ → ℕ} (fault : LoadFault) (result : Result Config LoadFault) → IsErrAnd result (λ passed. passed ≡ fault) → (let answer : Result Loaded LoadFault = Err fault in HasAnswered told told' counts counts' (loaded_unless skips limits meta) answer) → HasAnswered told told' counts counts' (conf_unless skips limits meta) result
   HasAnswered-no_config {told} {told'} {counts} {counts'} fault result is read =
       subst (λ (reading : ByTold Config). HasAnswered told told' counts counts' reading result) (λ i t. sym (conf-loaded t) i)
-      (HasAnswered-passed (loaded_within limits meta) (λ _ all. Reads all.config) fault result is read)
+      (HasAnswered-passed (loaded_unless skips limits meta) (λ _ all. Reads all.config) fault result is read)
 
   -- what answers the reading of the configuration with the rows answers that of the configuration alone
-  pub HasAnswered-config : {told told' : FilesTold} {counts counts' : List ℕ → ℕ} (all : Loaded) → (let answer : Result Loaded LoadFault = Ok all in HasAnswered told told' counts counts' (loaded_within limits meta) answer) → (let answer : Result Config LoadFault = Ok all.config in HasAnswered told told' counts counts' (conf_within limits meta) answer)
+  pub HasAnswered-config : {told told' : FilesTold} {counts counts' : List ℕ → ℕ} (all : Loaded) → (let answer : Result Loaded LoadFault = Ok all in HasAnswered told told' counts counts' (loaded_unless skips limits meta) answer) → (let answer : Result Config LoadFault = Ok all.config in HasAnswered told told' counts counts' (conf_unless skips limits meta) answer)
   HasAnswered-config {told} {told'} {counts} {counts'} all read =
       let answer : Result Config LoadFault = Ok all.config in
       subst (λ (reading : ByTold Config). HasAnswered told told' counts counts' reading answer) (λ i t. sym (conf-loaded t) i)
-      (HasAnswered-next (loaded_within limits meta) all (λ _ all. Reads all.config) answer read (reads told' counts' all.config))
+      (HasAnswered-next (loaded_unless skips limits meta) all (λ _ all. Reads all.config) answer read (reads told' counts' all.config))

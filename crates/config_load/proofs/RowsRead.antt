@@ -1,5 +1,5 @@
 -- Rows and zones, as rows are read one by one.
-use Rattle.std.proofs.Common.{◌≡◌, ℕ, ◌+◌, Bool, true, false, cond, List, [], ◌∷◌, ◌++◌, Some, None, Ok, Err, refl, sym, ap, ◌∙◌, subst, inl, inr, arith}
+use Rattle.std.proofs.Common.{◌≡◌, ℕ, ◌+◌, Bool, true, false, cond, List, [], ◌∷◌, ◌++◌, Some, None, Ok, Err, if◌then◌else◌, refl, sym, ap, ◌∙◌, subst, inl, inr, arith}
 use Rattle.std.proofs.lemmas.List.Elements.{Contains-append_cases, Contains-append_left, Contains-append_right}
 use Rattle.dns_data.specs.Name.{Labels}
 use Rattle.dns_data.proofs.Membership.{first_or_later, has_first, none_in_nil, pairs_more}
@@ -8,7 +8,7 @@ use Rattle.meta_read.specs.declared.meta.Meta.{Meta as Metadata}
 use Rattle.meta_read.specs.declared.meta.MetaRow.{MetaRow}
 use Rattle.net_model.specs.declared.config.Server.{Server}
 use Rattle.net_model.specs.declared.config.Zone.{Zone}
-use Rattle.config_load.specs.Conf.{left_behind, loaded_within, metadata, no_rows, row_files, with_row, with_rows, zone_files, zone_read}
+use Rattle.config_load.specs.Conf.{left_behind, loaded_unless, loaded_within, metadata, no_row, no_rows, row_files, with_row, with_row_unless, with_rows, with_rows_unless, zone_files, zone_read, zone_skipped, zone_unless}
 use Rattle.config_load.specs.Faults.{of_rule}
 use Rattle.config_load.specs.Hosted.{held_in}
 use Rattle.config_load.specs.Reading.{Reading, Reads, Refuses, Misses, Unknown, ◌>>=◌, unless_refused}
@@ -53,9 +53,9 @@ abbrev behind_rows : Metadata → ReadRows → Reading Loaded
 behind_rows found rows = Reads (record { config = record { tops = found.tops; servers = rows.servers }; rows = rows.rows })
 
 -- a row that was read: its zone, which its server didn't have, and the rows with it
-pub record GivenRow (meta : List ℕ) (told : FilesTold) (row : MetaRow) (rows after : ReadRows) : Type 0 where
+pub record GivenRow (skips : MetaRow → Bool) (meta : List ℕ) (told : FilesTold) (row : MetaRow) (rows after : ReadRows) : Type 0 where
   pub read : ReadZone
-  pub reads : zone_read meta row rows.left told ≡ Reads read
+  pub reads : zone_unless skips meta row rows.left told ≡ Reads read
   pub new : has_zone row.server read.zone.origin rows.servers ≡ false
   pub made : record { left = read.left; servers = with_zone row.server read.zone rows.servers; rows = rows.rows ++ row_files row.server read ∷ [] } ≡ after
 
@@ -69,17 +69,24 @@ module _ (meta : List ℕ) (told : FilesTold) where
       let last : record { zone = zone.0; names = files.0.names; left = left_behind left files.0.text } ≡ read = cc in
       ap (λ (r : ReadZone). r.left.octets) (sym last)
 
+  -- so does it where the row may be skipped
+  pub unless_as_long : (skips : MetaRow → Bool) (row : MetaRow) (left : Limits) (read : ReadZone) → zone_unless skips meta row left told ≡ Reads read → read.left.octets ≡ left.octets
+  unless_as_long skips row left read = by (skips row) where
+    by : (skip : Bool) → (if skip then Reads (zone_skipped row left) else zone_read meta row left told) ≡ Reads read → read.left.octets ≡ left.octets
+    by true is = let same : zone_skipped row left ≡ read = cc in ap (λ (r : ReadZone). r.left.octets) (sym same)
+    by false is = left_as_long row left read is
+
   -- the zone of a row that was read was given to its server
-  pub row_given : (number : ℕ) (row : MetaRow) (rows after : ReadRows) → with_row meta number row rows told ≡ Reads after → GivenRow meta told row rows after
-  unfolding with_row
-  row_given number row rows after is =
-      let zone = read_on (zone_read meta row rows.left told) (behind_zone number row rows) after is in
+  pub row_given : (skips : MetaRow → Bool) (number : ℕ) (row : MetaRow) (rows after : ReadRows) → with_row_unless skips meta number row rows told ≡ Reads after → GivenRow skips meta told row rows after
+  unfolding with_row_unless
+  row_given skips number row rows after is =
+      let zone = read_on (zone_unless skips meta row rows.left told) (behind_zone number row rows) after is in
       let servers = read_on (unless_refused (λ fault. fault) (given number row.server zone.0.zone rows.servers)) (behind_servers row rows zone.0) after zone.2 in
       by zone.0 zone.1 servers.0 (has_zone row.server zone.0.zone.origin rows.servers) refl servers.1 servers.2
     where
-      by : (read : ReadZone) → zone_read meta row rows.left told ≡ Reads read → (servers : List Server) → (b : Bool) → has_zone row.server read.zone.origin rows.servers ≡ b
+      by : (read : ReadZone) → zone_unless skips meta row rows.left told ≡ Reads read → (servers : List Server) → (b : Bool) → has_zone row.server read.zone.origin rows.servers ≡ b
           → unless_refused (λ fault. fault) (cond b (Err (ZoneTwice number)) (Ok (with_zone row.server read.zone rows.servers))) ≡ Reads servers
-          → Reads (record { left = read.left; servers = servers; rows = rows.rows ++ row_files row.server read ∷ [] }) ≡ Reads after → GivenRow meta told row rows after
+          → Reads (record { left = read.left; servers = servers; rows = rows.rows ++ row_files row.server read ∷ [] }) ≡ Reads after → GivenRow skips meta told row rows after
       by read reads servers true had got made = absurd cc
       by read reads servers false new got made =
           let are : with_zone row.server read.zone rows.servers ≡ servers = cc in
@@ -150,7 +157,7 @@ module _ (limits : Limits) (meta : List ℕ) (told : FilesTold) where
   -- one row more
   row_stands : (tops : List Labels) (number : ℕ) (row : MetaRow) (rows after : ReadRows) → StandOn tops rows → with_row meta number row rows told ≡ Reads after → StandOn tops after
   row_stands tops number row rows after stand is =
-      let one = row_given meta told number row rows after is in
+      let one = row_given meta told no_row number row rows after is in
       subst (StandOn tops) one.made (
         left_as_long meta told row rows.left one.read one.reads ∙ stand.0,
         one_more tops rows stand.0 stand.1 row one.read one.reads one.new,
@@ -158,7 +165,7 @@ module _ (limits : Limits) (meta : List ℕ) (told : FilesTold) where
 
   -- and the rows behind them
   rows_stand : (tops : List Labels) (number : ℕ) (more : List MetaRow) (rows after : ReadRows) → StandOn tops rows → with_rows meta number more rows told ≡ Reads after → StandOn tops after
-  unfolding with_rows
+  unfolding with_rows_unless
   rows_stand tops number [] rows after stand is = let same : rows ≡ after = cc in subst (StandOn tops) same stand
   rows_stand tops number (row ∷ more) rows after stand is =
       let next = read_on (with_row meta number row rows told) (λ next. with_rows meta (number + 1) more next told) after is in
@@ -178,7 +185,7 @@ module _ (limits : Limits) (meta : List ℕ) (told : FilesTold) where
 
   -- in all that the files give, each row has its zone, and each zone its row
   pub rows_read : (all : Loaded) → loaded_within limits meta told ≡ Reads all → RowsHaveZones limits meta told all
-  unfolding loaded_within
+  unfolding loaded_unless
   rows_read all is =
       let found = read_on (metadata limits meta told) (λ found. with_rows meta 1 found.rows (no_rows limits) told >>= behind_rows found) all is in
       let rows = read_on (with_rows meta 1 found.0.rows (no_rows limits) told) (behind_rows found.0) all found.2 in

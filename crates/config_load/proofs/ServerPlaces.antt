@@ -159,22 +159,23 @@ ArePlaces-more old new name zones servers are none updates other =
     by_test false apart = or_none (server_place other servers)
 
 -- a set that tells which zones servers have tells of one zone more once its name and origin are put in
-pub AreHeld-more : (old new : tree.BTreeSet (List Labels)) (name : Labels) (zone : Zone) (servers : List Server) → AreHeld old servers → tree.Updates (slice_cmp name_cmp) old new (name ∷ zone.origin ∷ []) true → AreHeld new (with_zone name zone servers)
+pub AreHeld-more : (old new : tree.BTreeSet (List Labels)) (name : Labels) (zone : Zone) (servers : List Server) → AreHeld old servers → tree.Updates (slice_cmp name_cmp) old new (zone.origin ∷ name ∷ []) true → AreHeld new (with_zone name zone servers)
 AreHeld-more old new name zone servers are updates other origin =
-    updates.0 (other ∷ origin ∷ [])
+    updates.0 (origin ∷ other ∷ [])
     ∙ (λ i. cond (test i) true (are other origin i))
     ∙ by_tests (name_eq other name) (name_eq origin zone.origin) (has_zone other origin servers)
     ∙ sym (has_zone-more name zone servers other origin)
   where
-    test : is_at (slice_cmp name_cmp (name ∷ zone.origin ∷ [])) (other ∷ origin ∷ []) ≡ (name_eq other name && (name_eq origin zone.origin && true))
+    test : is_at (slice_cmp name_cmp (zone.origin ∷ name ∷ [])) (origin ∷ other ∷ []) ≡ (name_eq origin zone.origin && (name_eq other name && true))
     test =
-        sym (lists_ties name_cmp (lists_ties label_cmp texts_ties) (name ∷ zone.origin ∷ []) (other ∷ origin ∷ []))
-        ∙ (λ i. (lists_equiv nat_list_eq_equiv).symm name other i && ((lists_equiv nat_list_eq_equiv).symm zone.origin origin i && true))
+        sym (lists_ties name_cmp (lists_ties label_cmp texts_ties) (zone.origin ∷ name ∷ []) (origin ∷ other ∷ []))
+        ∙ (λ i. (lists_equiv nat_list_eq_equiv).symm zone.origin origin i && ((lists_equiv nat_list_eq_equiv).symm name other i && true))
 
-    by_tests : (a b has : Bool) → cond (a && (b && true)) true has ≡ ((a && b) || has)
+    by_tests : (a b has : Bool) → cond (b && (a && true)) true has ≡ ((a && b) || has)
     by_tests true true has = refl
     by_tests true false has = refl
-    by_tests false b has = refl
+    by_tests false true has = refl
+    by_tests false false has = refl
 
 -- places after a call that puts a server behind the others, where it didn't fail
 pub ArePlaces-pushed : {T E : Type 0} (r : Result T E) (old new : map.BTreeMap Labels ℕ) (name : Labels) (zone : Zone) (servers after : List Server) → ArePlaces old servers → server_place name servers ≡ None → OnOk r (after ≡ servers ++ (record { name = name; zones = zone ∷ [] }) ∷ []) → OnOk r (map.Updates name_cmp old new name (Some (length servers))) → OnOk r (ArePlaces new after)

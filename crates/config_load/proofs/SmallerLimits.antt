@@ -1,6 +1,6 @@
 -- Texts that are read with other limits: the same is read where all that was read fits these, and so it is of the first of
 -- the texts.
-use Rattle.std.proofs.Common.{◌≡◌, ℕ, zero, suc, ◌+◌, ◌≤◌, Bool, true, false, cond, nat_le, List, [], ◌∷◌, ◌++◌, option_to_list, Option, Some, None, Result, Ok, Err, if◌then◌else◌, refl, sym, ap, ◌∙◌, subst, arith}
+use Rattle.std.proofs.Common.{◌≡◌, ℕ, zero, suc, ◌+◌, ◌≤◌, Bool, true, false, cond, nat_le, List, [], ◌∷◌, ◌++◌, Option, Some, None, Result, Ok, Err, if◌then◌else◌, refl, sym, ap, ◌∙◌, subst, arith}
 use Rattle.std.proofs.lemmas.Bool.Decides.{nat_tests}
 use Rattle.dns_data.specs.Answers.{◌>>=◌}
 use Rattle.dns_data.specs.Name.{Labels}
@@ -16,14 +16,7 @@ use Rattle.master_read.specs.declared.fault.TextFault.TheVariants.{At}
 use Rattle.master_read.specs.declared.records.ReadLimits.{ReadLimits}
 use Rattle.master_read.specs.declared.records.Records.{Records}
 use Rattle.master_read.specs.declared.zone_text.ZoneText.{ZoneText}
-
-both_steps : {A B F : Type 0} (first : Result A F) (next : A → Result B F) (b : B) → (first >>= next) ≡ Ok b → (a : A) × ((first ≡ Ok a) × (next a ≡ Ok b))
-both_steps (Ok a) next b e = (a, (refl, e))
-both_steps (Err fault) next b e = absurd cc
-
-at_ok : {T : Type 0} (file line : ℕ) (step : Result T TextCause) (value : T) → at file line step ≡ Ok value → step ≡ Ok value
-at_ok file line (Ok other) value e = let is : other ≡ value = cc in ap Ok is
-at_ok file line (Err cause) value e = absurd cc
+use Rattle.master_read.proofs.Counts.{both_steps, at_ok, one_seen}
 
 -- a step of reading, by the limits
 abbrev Step : Type 0
@@ -76,10 +69,6 @@ keeps_then first second records a b = record {
     behind limits other more read between e fits (Err (Faulty fault)) is = absurd is
 
 -- ---- entries
-
--- the records with one more entry that was seen
-abbrev one_seen : Records → Made → Records
-one_seen so_far made = record so_far { context = made.context; rrs = so_far.rrs ++ option_to_list made.rr; seen = so_far.seen + 1 }
 
 made_again : (room other : ℕ) (so_far records : Records) (made : Made) → with_made room so_far made ≡ Ok records
     → (so_far.seen ≤ records.seen) × (so_far.included ≤ records.included) × (records.seen ≤ other → with_made other so_far made ≡ Ok records)

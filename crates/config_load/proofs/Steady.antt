@@ -1,6 +1,6 @@
 -- What a reading gives by what is told it gives by whatever tells more; and what follows for two readings, one after the
 -- other.
-use Rattle.std.proofs.Common.{◌≡◌, ℕ, zero, suc, ◌+◌, ◌⊎◌, List, [], ◌∷◌, ◌++◌, Result, Ok, Err, if◌then◌else◌, refl, sym, ap, ◌∙◌, subst, inl, inr, true, false, nat_eq}
+use Rattle.std.proofs.Common.{◌≡◌, ℕ, zero, suc, ◌+◌, ◌⊎◌, Bool, List, [], ◌∷◌, ◌++◌, Result, Ok, Err, if◌then◌else◌, refl, sym, ap, ◌∙◌, subst, inl, inr, true, false, nat_eq}
 use Rattle.std.specs.Prelude.{unwrap_or}
 use lib.Pointwise.{pointwise}
 use Rattle.dns_data.specs.Name.{Labels}
@@ -10,7 +10,7 @@ use Rattle.master_read.specs.declared.zone_text.ZoneText.{ZoneText}
 use Rattle.meta_read.specs.Metadata.{metadata_within}
 use Rattle.meta_read.specs.declared.meta.MetaRow.{MetaRow}
 use Rattle.zone_rules.specs.ZoneOf.{zone_of}
-use Rattle.config_load.specs.Conf.{settled, files_behind, zone_files, zone_read, left_behind, row_files, with_row, with_rows, no_rows, metadata, conf_within, loaded_within}
+use Rattle.config_load.specs.Conf.{settled, files_behind, zone_files, zone_read, zone_skipped, zone_unless, left_behind, row_files, with_row_unless, with_rows_unless, no_rows, no_row, metadata, conf_within, conf_unless, loaded_within, loaded_unless}
 use Rattle.config_load.specs.Faults.{of_metadata, of_rule}
 use Rattle.config_load.specs.Follows.{ByTold, StopsEarly}
 use Rattle.config_load.specs.Joined.{joined}
@@ -86,42 +86,53 @@ zone_is_steady meta row left =
     (λ told files. unless_refused (of_rule files.names) (zone_of row.origin files.text.rrs) >>= λ zone. Reads (record { zone = zone; names = files.names; left = left_behind left files.text }))
     (zone_files_are_steady meta row left) (λ files. known_is_steady _)
 
-row_is_steady : (meta : List ℕ) (number : ℕ) (row : MetaRow) (rows : ReadRows) → IsSteady (with_row meta number row rows)
-unfolding with_row
-row_is_steady meta number row rows =
-    bind_is_steady (zone_read meta row rows.left)
-    (λ told read. unless_refused (λ fault. fault) (given number row.server read.zone rows.servers) >>= λ servers. Reads (record { left = read.left; servers = servers; rows = rows.rows ++ row_files row.server read ∷ [] }))
-    (zone_is_steady meta row rows.left) (λ read. known_is_steady _)
+-- so is it if the row may be skipped
+pub unless_is_steady : (skips : MetaRow → Bool) (meta : List ℕ) (row : MetaRow) (left : Limits) → IsSteady (zone_unless skips meta row left)
+unless_is_steady skips meta row left = by (skips row) where
+  by : (skip : Bool) → IsSteady (λ told. if skip then Reads (zone_skipped row left) else zone_read meta row left told)
+  by true = λ told later stays. inl refl
+  by false = zone_is_steady meta row left
 
-rows_are_steady : (meta : List ℕ) (number : ℕ) (more : List MetaRow) (rows : ReadRows) → IsSteady (with_rows meta number more rows)
-unfolding with_rows
-rows_are_steady meta number [] rows = λ told later stays. inl refl
-rows_are_steady meta number (row ∷ more) rows =
-    bind_is_steady (with_row meta number row rows) (λ told rows. with_rows meta (number + 1) more rows told)
-    (row_is_steady meta number row rows) (λ rows. rows_are_steady meta (number + 1) more rows)
+row_is_steady : (skips : MetaRow → Bool) (meta : List ℕ) (number : ℕ) (row : MetaRow) (rows : ReadRows) → IsSteady (with_row_unless skips meta number row rows)
+unfolding with_row_unless
+row_is_steady skips meta number row rows =
+    bind_is_steady (zone_unless skips meta row rows.left)
+    (λ told read. unless_refused (λ fault. fault) (given number row.server read.zone rows.servers) >>= λ servers. Reads (record { left = read.left; servers = servers; rows = rows.rows ++ row_files row.server read ∷ [] }))
+    (unless_is_steady skips meta row rows.left) (λ read. known_is_steady _)
+
+rows_are_steady : (skips : MetaRow → Bool) (meta : List ℕ) (number : ℕ) (more : List MetaRow) (rows : ReadRows) → IsSteady (with_rows_unless skips meta number more rows)
+unfolding with_rows_unless
+rows_are_steady skips meta number [] rows = λ told later stays. inl refl
+rows_are_steady skips meta number (row ∷ more) rows =
+    bind_is_steady (with_row_unless skips meta number row rows) (λ told rows. with_rows_unless skips meta (number + 1) more rows told)
+    (row_is_steady skips meta number row rows) (λ rows. rows_are_steady skips meta (number + 1) more rows)
 
 metadata_are_steady : (limits : Limits) (meta : List ℕ) → IsSteady (metadata limits meta)
 unfolding metadata
 metadata_are_steady limits meta =
     bind_is_steady (file_octets limits meta) (λ told octets. unless_refused of_metadata (metadata_within limits.rows octets)) (file_is_steady limits meta) (λ octets. known_is_steady _)
 
--- the reading of the configuration of a metadata file is steady
-pub conf_is_steady : (limits : Limits) (meta : List ℕ) → IsSteady (conf_within limits meta)
-unfolding conf_within
-conf_is_steady limits meta =
-    bind_is_steady (metadata limits meta) (λ told found. with_rows meta 1 found.rows (no_rows limits) told >>= λ rows. Reads (record { tops = found.tops; servers = rows.servers }))
+-- the reading of the configuration of a metadata file is steady, whatever rows are skipped
+pub conf_unless_is_steady : (skips : MetaRow → Bool) (limits : Limits) (meta : List ℕ) → IsSteady (conf_unless skips limits meta)
+unfolding conf_unless
+conf_unless_is_steady skips limits meta =
+    bind_is_steady (metadata limits meta) (λ told found. with_rows_unless skips meta 1 found.rows (no_rows limits) told >>= λ rows. Reads (record { tops = found.tops; servers = rows.servers }))
     (metadata_are_steady limits meta)
-    (λ found. bind_is_steady (with_rows meta 1 found.rows (no_rows limits)) (λ told rows. Reads (record { tops = found.tops; servers = rows.servers }))
-    (rows_are_steady meta 1 found.rows (no_rows limits)) (λ rows. known_is_steady _))
+    (λ found. bind_is_steady (with_rows_unless skips meta 1 found.rows (no_rows limits)) (λ told rows. Reads (record { tops = found.tops; servers = rows.servers }))
+    (rows_are_steady skips meta 1 found.rows (no_rows limits)) (λ rows. known_is_steady _))
+
+-- so it is where none is skipped
+pub conf_is_steady : (limits : Limits) (meta : List ℕ) → IsSteady (conf_within limits meta)
+conf_is_steady = conf_unless_is_steady no_row
 
 -- the reading of the configuration of a metadata file, with the names of its files, is steady
 pub loaded_is_steady : (limits : Limits) (meta : List ℕ) → IsSteady (loaded_within limits meta)
-unfolding loaded_within
+unfolding loaded_unless
 loaded_is_steady limits meta =
-    bind_is_steady (metadata limits meta) (λ told found. with_rows meta 1 found.rows (no_rows limits) told >>= λ rows. Reads (record { config = record { tops = found.tops; servers = rows.servers }; rows = rows.rows }))
+    bind_is_steady (metadata limits meta) (λ told found. with_rows_unless no_row meta 1 found.rows (no_rows limits) told >>= λ rows. Reads (record { config = record { tops = found.tops; servers = rows.servers }; rows = rows.rows }))
     (metadata_are_steady limits meta)
-    (λ found. bind_is_steady (with_rows meta 1 found.rows (no_rows limits)) (λ told rows. Reads (record { config = record { tops = found.tops; servers = rows.servers }; rows = rows.rows }))
-    (rows_are_steady meta 1 found.rows (no_rows limits)) (λ rows. known_is_steady _))
+    (λ found. bind_is_steady (with_rows_unless no_row meta 1 found.rows (no_rows limits)) (λ told rows. Reads (record { config = record { tops = found.tops; servers = rows.servers }; rows = rows.rows }))
+    (rows_are_steady no_row meta 1 found.rows (no_rows limits)) (λ rows. known_is_steady _))
 
 -- ---- by what tells more
 
@@ -182,34 +193,54 @@ module _ {A : Type 0} {reading : ByTold A} (steady : IsSteady reading) where
     by (inl same) = inl (sym same)
     by (inr (name, stopped, untold, some)) = inr (stopped ∙ ap Unknown (without-only told file name untold some))
 
+-- ---- a reading behind another
+
+module _ {A B : Type 0} (first : ByTold A) (next : FilesTold → A → Reading B) where
+  -- the first reading, and what follows
+  abbrev all : ByTold B
+  all told = first told >>= next told
+
+  -- they come to each file to which the first comes
+  pub comes_first : (told : FilesTold) (file : List ℕ) → ComesToFile first told file → ComesToFile all told file
+  comes_first told file comes = ap (λ (read : Reading A). read >>= next (without file told)) comes
+
+  -- they come to each file to which what follows comes, if the first was read
+  pub comes_behind : IsSteady first → (told : FilesTold) (value : A) (file : List ℕ) → first told ≡ Reads value → ComesToFile (λ told. next told value) told file → ComesToFile all told file
+  comes_behind steady told value file is comes = by (gives_without steady told file) where
+    by : (first (without file told) ≡ first told) ⊎ ComesToFile first told file → ComesToFile all told file
+    by (inl same) = ap (λ (read : Reading A). read >>= next (without file told)) (same ∙ is) ∙ comes
+    by (inr earlier) = comes_first told file earlier
+
+  -- they open no file but those to which they come
+  pub opens_behind : IsSteady first → (before between after : FilesTold) (value : A) → StaysTold between after → first between ≡ Reads value
+      → OpensNoOther first before between → OpensNoOther (λ told. next told value) between after → OpensNoOther all before after
+  opens_behind steady before between after value stays is a b file = by (a file) (b file) where
+    by : (between file ≡ before file) ⊎ ComesToFile first between file → (after file ≡ between file) ⊎ ComesToFile (λ told. next told value) after file → (after file ≡ before file) ⊎ ComesToFile all after file
+    by (inl kept) (inl same) = inl (same ∙ kept)
+    by (inr comes) (inl same) = inr (comes_first after file (comes_later steady between after file stays comes))
+    by earlier (inr comes) = inr (comes_behind steady after value file (reads_later steady between after value stays is) comes)
+
+  -- if the first gives nothing, no file is opened but those to which it comes
+  pub opens_first : (before after : FilesTold) → OpensNoOther first before after → OpensNoOther all before after
+  opens_first before after a file = by (a file) where
+    by : (after file ≡ before file) ⊎ ComesToFile first after file → (after file ≡ before file) ⊎ ComesToFile all after file
+    by (inl same) = inl same
+    by (inr comes) = inr (comes_first after file comes)
+
 -- ---- two readings, one after the other
 
 module _ {A B : Type 0} (first : ByTold A) (second : ByTold B) where
-  -- two readings, one after the other, come to each file to which the first comes
-  pub comes_first : (told : FilesTold) (file : List ℕ) → ComesToFile first told file → ComesToFile (both first second) told file
-  comes_first told file comes = ap (λ read. read >>= λ one. second (without file told) >>= λ other. Reads (one, other)) comes
+  -- the second reading, behind what the first gave
+  abbrev pub second_behind : FilesTold → A → Reading (A × B)
+  second_behind told one = second told >>= λ other. Reads (one, other)
 
-  -- two readings, one after the other, come to each file to which the second comes, if the first was read
+  -- they come to each file to which the second comes, if the first was read
   pub comes_second : IsSteady first → (told : FilesTold) (value : A) (file : List ℕ) → first told ≡ Reads value → ComesToFile second told file → ComesToFile (both first second) told file
-  comes_second steady told value file is comes = by (gives_without steady told file) where
-    by : (first (without file told) ≡ first told) ⊎ ComesToFile first told file → ComesToFile (both first second) told file
-    by (inl same) =
-        ap (λ read. read >>= λ one. second (without file told) >>= λ other. Reads (one, other)) (same ∙ is)
-        ∙ ap (λ read. read >>= λ other. Reads (value, other)) comes
-    by (inr earlier) = comes_first told file earlier
+  comes_second steady told value file is comes =
+      comes_behind first second_behind steady told value file is (comes_first second (λ told other. Reads (value, other)) told file comes)
 
-  -- two readings, one after the other, open no file but those to which they come
+  -- they open no file but those to which they come
   pub opens_both : IsSteady first → (before between after : FilesTold) (value : A) → StaysTold between after → first between ≡ Reads value
       → OpensNoOther first before between → OpensNoOther second between after → OpensNoOther (both first second) before after
-  opens_both steady before between after value stays is a b file = by (a file) (b file) where
-    by : (between file ≡ before file) ⊎ ComesToFile first between file → (after file ≡ between file) ⊎ ComesToFile second after file → (after file ≡ before file) ⊎ ComesToFile (both first second) after file
-    by (inl kept) (inl same) = inl (same ∙ kept)
-    by (inr comes) (inl same) = inr (comes_first after file (comes_later steady between after file stays comes))
-    by earlier (inr comes) = inr (comes_second steady after value file (reads_later steady between after value stays is) comes)
-
-  -- if the first of two readings gives nothing, no file is opened but those to which it comes
-  pub opens_first : (before after : FilesTold) → OpensNoOther first before after → OpensNoOther (both first second) before after
-  opens_first before after a file = by (a file) where
-    by : (after file ≡ before file) ⊎ ComesToFile first after file → (after file ≡ before file) ⊎ ComesToFile (both first second) after file
-    by (inl same) = inl same
-    by (inr comes) = inr (comes_first after file comes)
+  opens_both steady before between after value stays is a b =
+      opens_behind first second_behind steady before between after value stays is a (opens_first second (λ told other. Reads (value, other)) between after b)

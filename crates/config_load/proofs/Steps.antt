@@ -12,7 +12,7 @@ use Rattle.net_model.specs.declared.config.Server.{Server}
 use Rattle.net_model.specs.declared.config.Zone.{Zone}
 use Rattle.zone_rules.specs.declared.fault.RuleFault.{RuleFault}
 use Rattle.zone_rules.specs.declared.fault.RuleFault.TheVariants as rule_faults
-use Rattle.config_load.specs.Conf.{with_rows}
+use Rattle.config_load.specs.Conf.{with_rows_unless}
 use Rattle.config_load.specs.Faults.{FailedAt, of_metadata, of_rule}
 use Rattle.config_load.specs.Follows.{ByTold, Follows, Answers}
 use Rattle.config_load.specs.Reading.{Reads, Refuses, unless_refused}
@@ -108,6 +108,6 @@ pub rest-more : (all : List MetaRow) (i : ℕ) (row : MetaRow) → i < length al
 rest-more all i row below is = drop-cons all i row below ∙ (λ j. sym is j ∷ drop (sym (add-one i) j) all)
 
 -- at the end of the rows there is none more to be read
-pub with_rows-end : (meta : List ℕ) (all : List MetaRow) (i : ℕ) (rows : ReadRows) (told : FilesTold) → length all ≤ i → with_rows meta (i + 1) (drop i all) rows told ≡ Reads rows
-unfolding with_rows
-with_rows-end meta all i rows told past = ap (λ (rest : List MetaRow). with_rows meta (i + 1) rest rows told) (drop_of_length-le all past)
+pub with_rows-end : (skips : MetaRow → Bool) (meta : List ℕ) (all : List MetaRow) (i : ℕ) (rows : ReadRows) (told : FilesTold) → length all ≤ i → with_rows_unless skips meta (i + 1) (drop i all) rows told ≡ Reads rows
+unfolding with_rows_unless
+with_rows-end skips meta all i rows told past = ap (λ (rest : List MetaRow). with_rows_unless skips meta (i + 1) rest rows told) (drop_of_length-le all past)

@@ -6,7 +6,7 @@ use Rattle.master_read.specs.declared.fault.TextCause.TheVariants as causes
 use Rattle.meta_read.specs.declared.fault.MetaFault.TheVariants as meta_faults
 use Rattle.net_model.specs.declared.config.Server.{Server}
 use Rattle.net_model.specs.declared.config.Zone.{Zone}
-use Rattle.config_load.specs.Conf.{conf, conf_within, metadata}
+use Rattle.config_load.specs.Conf.{conf, conf_unless, metadata}
 use Rattle.config_load.specs.Faults.{name_numbered}
 use Rattle.config_load.specs.Joined.{joined}
 use Rattle.config_load.specs.Limits.{most_octets, usual_limits}
@@ -81,11 +81,11 @@ meta_row = refl
 -- The metadata file comes first.
 
 not_held : conf (codes "m.json") (λ _. NotHeld) ≡ Misses (codes "m.json")
-unfolding conf_within metadata
+unfolding conf_unless metadata
 not_held = refl
 
 not_told : conf (codes "m.json") (λ _. Untold) ≡ Unknown (codes "m.json")
-unfolding conf_within metadata
+unfolding conf_unless metadata
 not_told = refl
 
 -- A file may have as many octets as the limits allow, and no more than are counted.

@@ -36,7 +36,7 @@ held_in servers name origin =
 abbrev pub ArePlaces : map.BTreeMap Labels ℕ → List Server → Type 0
 ArePlaces places servers = (name : Labels) → map.get name_cmp places name ≡ server_place name servers
 
--- it is known of each name and origin, which together tell a zone, whether a server of this name has such a zone
+-- it is known of each origin and name, which together tell a zone, whether a server of this name has such a zone
 abbrev pub AreHeld : tree.BTreeSet (List Labels) → List Server → Type 0
 AreHeld held servers =
-    (name origin : Labels) → tree.contains (slice_cmp name_cmp) held (name ∷ origin ∷ []) ≡ has_zone name origin servers
+    (name origin : Labels) → tree.contains (slice_cmp name_cmp) held (origin ∷ name ∷ []) ≡ has_zone name origin servers

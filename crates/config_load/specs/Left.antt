@@ -1,11 +1,11 @@
 -- What is left of rows whose zones are taken: for the contracts of inner calls alone.
-use Rattle.std.specs.Prelude.{◌≡◌, ℕ, List, map, Contains, Result, Ok, Err}
+use Rattle.std.specs.Prelude.{◌≡◌, ℕ, Bool, List, map, Contains, Result, Ok, Err}
 use Rattle.std.specs.List.{flat_map}
 use Rattle.io_edges.specs.Files.{FilesTold}
 use Rattle.meta_read.specs.declared.meta.MetaRow.{MetaRow}
 use Rattle.net_model.specs.declared.config.Server.{Server}
 use Rattle.net_model.specs.declared.config.Zone.{Zone}
-use Rattle.config_load.specs.Conf.{zone_read}
+use Rattle.config_load.specs.Conf.{zone_unless}
 use Rattle.config_load.specs.Follows.{ByTold}
 use Rattle.config_load.specs.Reading.{Reads}
 use Rattle.config_load.specs.Sources.{HasAnswered}
@@ -47,9 +47,9 @@ pub record AreLeft (left : Zone → Zone) (took : List Zone → Type 0) (whole r
   pub are : rows ≡ rows_left left whole
   pub taken : AreTaken took (zones_in whole.servers)
 
--- what is left of the zone of a row, which was read or is among the zones of the rows before
-pub record IsReadLeft (meta : List ℕ) (told : FilesTold) (row : MetaRow) (left : Zone → Zone) (whole : ReadRows) (again : ReadZone) : Type 0 where
+-- what is left of the zone of a row, which is among the zones of the rows before
+pub record IsReadLeft (skips : MetaRow → Bool) (meta : List ℕ) (told : FilesTold) (row : MetaRow) (left : Zone → Zone) (whole : ReadRows) (again : ReadZone) : Type 0 where
   pub read : ReadZone
-  pub reads : zone_read meta row whole.left told ≡ Reads read
+  pub reads : zone_unless skips meta row whole.left told ≡ Reads read
   pub is : again ≡ read_left left read
   pub there : Contains (zones_in whole.servers) read.zone

@@ -25,4 +25,5 @@ pub mod Earlier
 pub mod RowZones
 pub mod FileName
 pub mod Taken
+pub mod Skipped
 pub mod Left

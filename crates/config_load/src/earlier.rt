@@ -1,9 +1,11 @@
 //! Rows whose zones were read, for the later rows that name the same files.
 
-ghost use Rattle.std.specs.Prelude.{◌≡◌, ◌≤◌, ℕ, List, true, IfOk, IfSome, OnOk, Some, slice_get};
+ghost use Rattle.std.specs.Prelude.{◌≡◌, ◌≤◌, ℕ, Bool, List, true, IfOk, IfSome, OnOk, Some, slice_get};
+ghost use Rattle.dns_data.specs.Name.{Labels};
 ghost use Rattle.io_edges.specs.Files.{FilesTold};
 ghost use Rattle.net_model.specs.Configured.{KeepsWithin};
-ghost use Rattle.config_load.specs.Earlier.{AreEarlier, HasPut, IsAlike, IsZoneNamed, WasRead};
+ghost use Rattle.config_load.specs.Conf.{row_skips};
+ghost use Rattle.config_load.specs.Earlier.{AreEarlier, HasPutAtMost, IsAlike, IsZoneNamed, WasRead};
 ghost use Rattle.config_load.specs.Left.{IsReadLeft, rows_left};
 
 use crate::limits::Limits;
@@ -38,43 +40,52 @@ pub(crate) struct EarlierRows {
 impl EarlierRows {
     /// No row was read.
     pub(crate) fn new(alloc: Global) -> EarlierRows
-        ensures { (meta : List ℕ) (told : FilesTold) (all : List MetaRow) (rows : ReadRows) → AreEarlier meta told all rows result }
+        ensures { (skips : MetaRow → Bool) (meta : List ℕ) (told : FilesTold) (all : List MetaRow) (rows : ReadRows) → AreEarlier skips meta told all rows result }
     {
         EarlierRows {
             by_number: BTreeMap::new(alloc),
         }
     }
 
-    /// What reading the zone of a row gives, taken over from an earlier row of the same file and origin: `None` where no
-    /// such row is known, or where less may still be read than was read for it.
+    /// What reading the zone of a row gives, taken over from an earlier row of the same file and origin: `None` where the
+    /// row is skipped, where no such row is known, or where less may still be read than was read for it.
     pub(crate) fn zone_again(
         &self,
         alloc: Global,
+        skipped: bool,
         all: &[MetaRow],
         row: &MetaRow,
         rows: &ReadRows,
     ) -> Result<Option<ReadZone>, NoMemory>
-        ensures reads { (meta : List ℕ) (told : FilesTold) (left : Zone → Zone) → ((zone : Zone) → (left zone).origin ≡ zone.origin)
-            → (whole : ReadRows) → rows.now ≡ rows_left left whole → AreEarlier meta told all.now whole self.now
-            → IfOk result (λ again. IfSome again (IsReadLeft meta told row.now left whole)) }
+        ensures reads { (skips : Labels → Bool) (meta : List ℕ) (told : FilesTold) (left : Zone → Zone) → ((zone : Zone) → (left zone).origin ≡ zone.origin)
+            → (whole : ReadRows) → rows.now ≡ rows_left left whole → AreEarlier (row_skips skips) meta told all.now whole self.now
+            → IfOk result (λ again. IfSome again (IsReadLeft (row_skips skips) meta told row.now left whole)) }
         ensures within { IfOk result (λ again. IfSome again (λ read. KeepsWithin read.zone)) }
     {
+        if skipped {
+            return Ok(None);
+        }
         match self.by_number.get(&row_number(row)).copied() {
             Some(earlier) => earlier.zone_again(alloc, all, row, rows),
             None => Ok(None),
         }
     }
 
-    /// Puts the row at this place in, whose zone was read with so much left before, and with it the last of the rows.
+    /// Puts the row at this place in, whose zone was read with so much left before, and with it the last of the rows;
+    /// none where it is skipped, for which no file was read.
     pub(crate) fn put(
         &mut self,
+        skipped: bool,
         place: usize,
         row: &MetaRow,
         left: Limits,
         rows: &ReadRows,
     ) -> Result<(), NoMemory>
-        ensures { OnOk result (HasPut place left rows.now.left self.old self.new) }
+        ensures { OnOk result (HasPutAtMost place left rows.now.left self.old self.new) }
     {
+        if skipped {
+            return Ok(());
+        }
         let earlier = EarlierRow {
             row: place,
             zone: rows.servers.last_zone(&row.server),
@@ -96,10 +107,10 @@ impl EarlierRow {
         row: &MetaRow,
         rows: &ReadRows,
     ) -> Result<Option<ReadZone>, NoMemory>
-        ensures reads { (meta : List ℕ) (told : FilesTold) (left : Zone → Zone) → ((zone : Zone) → (left zone).origin ≡ zone.origin)
+        ensures reads { (skips : Labels → Bool) (meta : List ℕ) (told : FilesTold) (left : Zone → Zone) → ((zone : Zone) → (left zone).origin ≡ zone.origin)
             → (whole : ReadRows) → rows.now ≡ rows_left left whole
-            → ((earlier : MetaRow) → slice_get all.now self.row ≡ Some earlier → WasRead meta told earlier whole self)
-            → IfOk result (λ again. IfSome again (IsReadLeft meta told row.now left whole)) }
+            → ((earlier : MetaRow) → slice_get all.now self.row ≡ Some earlier → WasRead (row_skips skips) meta told earlier whole self)
+            → IfOk result (λ again. IfSome again (IsReadLeft (row_skips skips) meta told row.now left whole)) }
         ensures within { IfOk result (λ again. IfSome again (λ read. KeepsWithin read.zone)) }
     {
         if !self.is_alike(all, row) || !self.has_room(rows.left) {

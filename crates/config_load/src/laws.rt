@@ -1,13 +1,17 @@
 //! What the definitions say of what files give.
 
-ghost use Rattle.std.specs.Prelude.{◌≡◌, ◌≢◌, ℕ, List};
+ghost use Rattle.std.specs.Prelude.{◌≡◌, ◌≢◌, ℕ, Bool, List};
+ghost use Rattle.dns_data.specs.Name.{Labels};
 ghost use Rattle.io_edges.specs.Files.{FilesTold};
-ghost use Rattle.config_load.specs.Conf.{conf_within, config_of, loaded_within};
+ghost use Rattle.config_load.specs.Conf.{conf_unless, conf_within, config_of, loaded_within, row_skips};
 ghost use Rattle.config_load.specs.Load.{IsSteady};
 ghost use Rattle.config_load.specs.Reading.{Reads, Refuses, file_octets};
 ghost use Rattle.config_load.specs.RowZones.{RowsHaveZones};
+ghost use Rattle.config_load.specs.Skipped.{GivesUnless};
 ghost use Rattle.config_load.specs.declared.limits.Limits.{Limits};
 ghost use Rattle.config_load.specs.declared.loaded.Loaded.{Loaded};
+ghost use Rattle.meta_read.specs.declared.meta.MetaRow.{MetaRow};
+ghost use Rattle.net_model.specs.declared.config.Config.{Config};
 
 use crate::fault::LoadFault;
 
@@ -22,7 +26,15 @@ pub fn files_want_nothing()
 /// stopped at a name of which nothing was told and now is.
 pub fn readings_stay()
     ensures conf { (limits : Limits) (meta : List ℕ) → IsSteady (conf_within limits meta) }
+    ensures unless { (skips : MetaRow → Bool) (limits : Limits) (meta : List ℕ) → IsSteady (conf_unless skips limits meta) }
     ensures file { (limits : Limits) (name : List ℕ) → IsSteady (file_octets limits name) }
+{}
+
+/// Where files give a configuration, they give it also if rows are skipped, but for the records of zones whose rows give
+/// origins that are skipped.
+pub fn rows_may_be_skipped()
+    ensures { (skips : Labels → Bool) (limits : Limits) (meta : List ℕ) (told : FilesTold) (whole : Config)
+        → conf_within limits meta told ≡ Reads whole → GivesUnless skips whole (conf_unless (row_skips skips) limits meta told) }
 {}
 
 /// What the files give with the names of files is what they give without these.

@@ -8,9 +8,10 @@
 //! and after, so of such a source the same holds of what it told before. What was answered holds by whatever is told
 //! later (`readings_stay`): so readings may follow one another. `load_with_files` gives the names of files beside a
 //! configuration, which is the one that `load` gives (`rows_tell_files`); each row has the zone that was read from its
-//! files, and each zone is that of one row (`rows_have_zones`). `load_taken` gives of each zone what a `ZoneTaker` leaves of
-//! it, which takes it before the files of the next row are opened. `shown_file` gives the name of a file as lines for people
-//! show it.
+//! files, and each zone is that of one row (`rows_have_zones`). `load_taken` gives of each zone what a `ZoneTaker` leaves
+//! of it, which takes it before the files of the next row are opened. No file is opened for rows whose origins it passes
+//! over: the configuration is the same but for the records of their zones (`rows_may_be_skipped`). `shown_file` gives the
+//! name of a file as lines for people show it.
 //!
 //! Costs: a zone file is read once for all rows that name it with the same origin, with the files that it includes, in
 //! pieces of 4,096 octets, and one without `$INCLUDE` is never held whole. The first of these rows copies no record; each
@@ -39,7 +40,9 @@ mod zone_files;
 pub use fault::LoadFault;
 pub use file::read_file;
 pub use file_name::{put_decimal_escape, put_shown_octet, shown_file};
-pub use laws::{files_want_nothing, readings_stay, rows_have_zones, rows_tell_files};
+pub use laws::{
+    files_want_nothing, readings_stay, rows_have_zones, rows_may_be_skipped, rows_tell_files,
+};
 pub use limits::Limits;
 pub use loaded::{Loaded, RowFiles};
 pub use loading::{load, load_taken, load_with_files, load_within};

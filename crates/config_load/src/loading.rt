@@ -5,7 +5,7 @@ ghost use Rattle.dns_data.specs.Answers.{AnswersOr, with_fault};
 ghost use Rattle.io_edges.specs.Counts.{NoneFell};
 ghost use Rattle.io_edges.specs.Files.{FilesTold, StaysTold, TellsAll};
 ghost use Rattle.meta_read.specs.Metadata.{metadata_within};
-ghost use Rattle.config_load.specs.Conf.{conf, conf_within, loaded_within, metadata};
+ghost use Rattle.config_load.specs.Conf.{conf, conf_unless, conf_within, loaded_unless, loaded_within, metadata, row_skips};
 ghost use Rattle.config_load.specs.Faults.{FailedAt, of_metadata};
 ghost use Rattle.config_load.specs.Left.{HasLeft, loaded_left};
 ghost use Rattle.config_load.specs.Load.{Gives, FailedWhereItCame, IsReadFault, IsAnswerTo, NoFailureIn, NoReadFailed, OpensNoOther};
@@ -112,7 +112,8 @@ pub fn load_with_files<F: Files>(
 }
 
 /// What `load_within` gives, with each zone as the taker leaves it, which takes a zone before the files of the next row are
-/// opened. One that several rows name may be taken once.
+/// opened. One that several rows name may be taken once. No file is opened for a row whose origin the taker passes over:
+/// its zone has no records.
 pub fn load_taken<F: Files, T: ZoneTaker>(
     alloc: Global,
     limits: Limits,
@@ -124,20 +125,20 @@ pub fn load_taken<F: Files, T: ZoneTaker>(
 
     // What it answers is what is left of what the files give, by what is told of them after the call and by whatever tells
     // more.
-    ensures gives { GivesLeft (T.left_of taker.old) (T.took taker.old taker.new) (conf_within limits meta.now (F.told files.new)) result }
+    ensures gives { GivesLeft (T.left_of taker.old) (T.took taker.old taker.new) (conf_unless (row_skips (T.skips taker.old)) limits meta.now (F.told files.new)) result }
     ensures later { (later : FilesTold) → StaysTold (F.told files.new) later
-        → GivesLeft (T.left_of taker.old) (T.took taker.old taker.new) (conf_within limits meta.now later) result }
+        → GivesLeft (T.left_of taker.old) (T.took taker.old taker.new) (conf_unless (row_skips (T.skips taker.old)) limits meta.now later) result }
 
     // A failed read has its cause in a count, and comes before no refusal.
     ensures cause { FailedAt (F.faults files.old) (F.faults files.new) result }
-    ensures order { FailedWhereItCame (conf_within limits meta.now) (F.told files.new) result }
-    ensures misses { (file : List ℕ) → conf_within limits meta.now (F.told files.new) ≡ Misses file → IsReadFault result }
-    ensures unknown { (file : List ℕ) → conf_within limits meta.now (F.told files.new) ≡ Unknown file → IsReadFault result }
+    ensures order { FailedWhereItCame (conf_unless (row_skips (T.skips taker.old)) limits meta.now) (F.told files.new) result }
+    ensures misses { (file : List ℕ) → conf_unless (row_skips (T.skips taker.old)) limits meta.now (F.told files.new) ≡ Misses file → IsReadFault result }
+    ensures unknown { (file : List ℕ) → conf_unless (row_skips (T.skips taker.old)) limits meta.now (F.told files.new) ≡ Unknown file → IsReadFault result }
 
     // What the call does to the source. One that told all from the start tells the same after the call.
     ensures stays { StaysTold (F.told files.old) (F.told files.new) }
     ensures from_the_start { TellsAll (F.told files.old) → F.told files.new ≡ F.told files.old }
-    ensures opens { OpensNoOther (conf_within limits meta.now) (F.told files.old) (F.told files.new) }
+    ensures opens { OpensNoOther (conf_unless (row_skips (T.skips taker.old)) limits meta.now) (F.told files.old) (F.told files.new) }
     ensures never_fall { NoneFell (F.faults files.old) (F.faults files.new) }
 {
     read_taken(alloc, limits, files, meta, taker)
@@ -152,7 +153,7 @@ fn read_taken<F: Files, T: ZoneTaker>(
     taker: &mut T,
 ) -> Result<Config, LoadFault>
     requires { T.took taker.old taker.old [] }
-    ensures { HasLeft (F.told files.old) (F.told files.new) (F.faults files.old) (F.faults files.new) (conf_within limits meta.now)
+    ensures { HasLeft (F.told files.old) (F.told files.new) (F.faults files.old) (F.faults files.new) (conf_unless (row_skips (T.skips taker.old)) limits meta.now)
         (config_left (T.left_of taker.old)) (λ config. AreTaken (T.took taker.old taker.new) (zones config)) result }
 {
     let all = read_left(alloc, limits, files, meta, taker)?;
@@ -193,7 +194,7 @@ fn read_left<F: Files, T: ZoneTaker>(
     taker: &mut T,
 ) -> Result<Loaded, LoadFault>
     requires { T.took taker.old taker.old [] }
-    ensures { HasLeft (F.told files.old) (F.told files.new) (F.faults files.old) (F.faults files.new) (loaded_within limits meta.now)
+    ensures { HasLeft (F.told files.old) (F.told files.new) (F.faults files.old) (F.faults files.new) (loaded_unless (row_skips (T.skips taker.old)) limits meta.now)
         (loaded_left (T.left_of taker.old)) (λ all. AreTaken (T.took taker.old taker.new) (zones all.config)) result }
 {
     let found = read_meta(alloc, limits, files, meta)?;

@@ -15,8 +15,8 @@ use std::alloc::Global;
 use std::collections::{BTreeMap, BTreeSet};
 use std::marker::Model;
 
-/// Servers in the order in which they came, each with its zones, with the place of each by its name, and the server's name
-/// and the origin of each zone that one of them holds.
+/// Servers in the order in which they came, each with its zones, with the place of each by its name, and the origin of
+/// each zone that one of them holds with the server's name.
 #[derive(Drop)]
 pub(crate) struct Servers {
     servers: Vec<Server>,
@@ -96,18 +96,18 @@ impl Servers {
         self,
         alloc: Global,
         row: u32,
-        name: Name,
+        name: &Name,
         zone: Zone,
     ) -> Result<Servers, LoadFault>
         requires { KeepsWithin zone }
-        ensures { AnswersOr LoadFault.NoMemory result (given row name zone self) }
+        ensures { AnswersOr LoadFault.NoMemory result (given row name.now zone self) }
     {
         let Servers {
             mut servers,
             mut places,
             mut held,
         } = self;
-        if !held.insert(server_and_origin(alloc, &name, &zone.origin)?)? {
+        if !held.insert(origin_and_server(alloc, &zone.origin, name)?)? {
             return Err(LoadFault::ZoneTwice { row });
         }
         put_zone(alloc, &mut servers, &mut places, name, zone)?;
@@ -124,14 +124,14 @@ fn put_zone(
     alloc: Global,
     servers: &mut Vec<Server>,
     places: &mut BTreeMap<Name, usize>,
-    name: Name,
+    name: &Name,
     zone: Zone,
 ) -> Result<(), NoMemory>
     requires { ArePlaces places.old servers.old.items }
-    ensures servers { OnOk result (servers.new.items ≡ with_zone name zone servers.old.items) }
+    ensures servers { OnOk result (servers.new.items ≡ with_zone name.now zone servers.old.items) }
     ensures places { OnOk result (ArePlaces places.new servers.new.items) }
 {
-    match places.get(&name).copied() {
+    match places.get(name).copied() {
         Some(place) => push_zone(servers, place, zone),
         None => push_server(alloc, servers, places, name, zone),
     }
@@ -145,14 +145,14 @@ fn push_zone(servers: &mut Vec<Server>, place: usize, zone: Zone) -> Result<(), 
     servers[place].zones.push(zone)
 }
 
-/// The name of a zone's server, and its origin: what tells the zone apart from others.
-fn server_and_origin(alloc: Global, name: &Name, origin: &Name) -> Result<List<Name>, NoMemory>
-    ensures { IfOk result (λ server_and_origin. server_and_origin ≡ name.now ∷ origin.now ∷ []) }
+/// The origin of a zone, in which most differ, and the name of its server: what tells the zone apart from others.
+fn origin_and_server(alloc: Global, origin: &Name, name: &Name) -> Result<List<Name>, NoMemory>
+    ensures { IfOk result (λ origin_and_server. origin_and_server ≡ origin.now ∷ name.now ∷ []) }
 {
-    let mut server_and_origin = List::new(alloc);
-    server_and_origin.push(name.copy(alloc)?)?;
-    server_and_origin.push(origin.copy(alloc)?)?;
-    Ok(server_and_origin)
+    let mut origin_and_server = List::new(alloc);
+    origin_and_server.push(origin.copy(alloc)?)?;
+    origin_and_server.push(name.copy(alloc)?)?;
+    Ok(origin_and_server)
 }
 
 /// Puts a server with one zone behind the others, and keeps its place.
@@ -160,15 +160,18 @@ fn push_server(
     alloc: Global,
     servers: &mut Vec<Server>,
     places: &mut BTreeMap<Name, usize>,
-    name: Name,
+    name: &Name,
     zone: Zone,
 ) -> Result<(), NoMemory>
-    ensures servers { OnOk result (servers.new.items ≡ servers.old.items ++ (record { name = name; zones = zone ∷ [] }) ∷ []) }
-    ensures places { OnOk result (Updates name_cmp places.old places.new name (Some (length servers.old.items))) }
+    ensures servers { OnOk result (servers.new.items ≡ servers.old.items ++ (record { name = name.now; zones = zone ∷ [] }) ∷ []) }
+    ensures places { OnOk result (Updates name_cmp places.old places.new name.now (Some (length servers.old.items))) }
 {
     places.insert(name.copy(alloc)?, servers.len())?;
     let mut zones = List::new(alloc);
     zones.push(zone)?;
-    servers.push(Server { name, zones })?;
+    servers.push(Server {
+        name: name.copy(alloc)?,
+        zones,
+    })?;
     Ok(())
 }

@@ -16,7 +16,7 @@ use Rattle.net_model.specs.declared.config.Config.{Config}
 use Rattle.net_model.specs.declared.config.Server.{Server}
 use Rattle.net_model.specs.declared.config.Zone.{Zone}
 use Rattle.zone_rules.specs.ZoneOf.{zone_of}
-use Rattle.config_load.specs.Conf.{left_behind, settled, files_behind, zone_files, zone_read, no_rows, with_row, with_rows, metadata, conf_within}
+use Rattle.config_load.specs.Conf.{left_behind, settled, files_behind, zone_files, zone_read, no_rows, with_row, with_row_unless, with_rows, with_rows_unless, metadata, conf_unless, conf_within}
 use Rattle.config_load.specs.Faults.{of_metadata, of_rule}
 use Rattle.config_load.specs.Joined.{joined}
 use Rattle.config_load.specs.Limits.{AreUsual, most_octets}
@@ -113,7 +113,7 @@ module _ (told : FilesTold) (file : List ℕ) (records : ZoneText) (zone : Zone)
   row_read : (number : ℕ) (servers : List Server) (done : List RowFiles) → IsNewServer server servers → (left : Limits) → IsRead told left file records zone
       → with_row meta number row (record { left = left; servers = servers; rows = done }) told
       ≡ Reads (record { left = left_behind left records; servers = with_server server zone servers; rows = done ++ files_of ∷ [] })
-  unfolding with_row
+  unfolding with_row_unless
   row_read number servers done new left is =
       goes_on (zone_read meta row left told) (record { zone = zone; names = file ∷ []; left = left_behind left records })
       (λ read. unless_refused (λ fault. fault) (given number server read.zone servers)
@@ -148,7 +148,7 @@ module _ (n : ℕ) (few : n ≤ 5000) (limits : Limits) (usual : AreUsual limits
 
   rows_read : (a k number : ℕ) (servers : List Server) (done : List RowFiles) → a + k ≡ n → AllByRecursion (IsEarlier a) servers → (left : Limits) → 16777216 ≤ left.octets → 6 * k ≤ left.records
       → GivesSome (with_rows meta number (map zone_row (range_with_len a k)) (record { left = left; servers = servers; rows = done }) (drill_told n))
-  unfolding with_rows
+  unfolding with_rows_unless
   rows_read a zero number servers done all earlier left enough fits = (record { left = left; servers = servers; rows = done }, refl)
   rows_read a (suc k) number servers done all earlier left enough fits =
       let within : a < n = omega arith in
@@ -198,7 +198,7 @@ module _ (n : ℕ) (few : n ≤ 5000) (limits : Limits) (usual : AreUsual limits
   root_server = record { name = top; zones = root_of_records ∷ [] }
 
   all_rows : GivesSome (with_rows meta 1 (root_row ∷ map zone_row (zone_numbers n)) (no_rows limits) (drill_told n))
-  unfolding with_rows
+  unfolding with_rows_unless
   all_rows =
       let room : 6 * n ≤ limits.records - length (root_rows n) = omega (arith, root_rows_count n, usual.records) in
       let left_now = left_behind limits root_records in
@@ -211,7 +211,7 @@ module _ (n : ℕ) (few : n ≤ 5000) (limits : Limits) (usual : AreUsual limits
 
   -- the configuration
   configuration : GivesSome (conf_within limits meta (drill_told n))
-  unfolding conf_within
+  unfolding conf_unless
   configuration = (
     record { tops = top ∷ []; servers = all_rows.0.servers },
     goes_on (metadata limits meta (drill_told n)) (drill_meta n)

@@ -26,9 +26,9 @@ use Rattle.part_laws.proofs.WithPrefixes.{prefixes_there}
 use Rattle.part_names.specs.PartNames.{is_own}
 use Rattle.part_names.specs.declared.names.PartNames.{PartNames}
 use Rattle.part_checks.specs.Claims.{IsFitName, last_octets, rule_of}
-use Rattle.part_checks.specs.Outside.{first_outside, is_outside, parent, zone_names, IsApart, IsLasting, IsTold, Leaves}
+use Rattle.part_checks.specs.Outside.{first_outside, is_outside, parent, zone_names, IsApart, IsLasting, IsHeldOrAtAway, Leaves}
 use Rattle.part_checks.specs.Parts.{held_by}
-use Rattle.part_checks.specs.Rules.{IsHeldOrTold, Keeps, StartLeaves}
+use Rattle.part_checks.specs.Rules.{IsHeldOrLeavesAtAway, Keeps, StartLeaves}
 use Rattle.part_checks.specs.Taking.{FitsZone}
 use Rattle.part_checks.specs.Targets.{IsLed, LeadsInside}
 use Rattle.part_checks.specs.declared.fault.PartRule.{PartRule}
@@ -108,7 +108,7 @@ module _ (names : PartNames) (whole : Config) (rule : PartRule) (keeps : Keeps w
             ]
 
     -- what is held, or told as away, is told
-    told_of : (name : Labels) → IsHeldOrTold names name → IsTold names name
+    told_of : (name : Labels) → IsHeldOrLeavesAtAway names name → IsHeldOrAtAway names name
     told_of name (inl held) front found =
         let at = first_leaves names name front found in
         absurd (at.leaves.not_held (prefixes_there names.held (at.above ++ at.label ∷ []) at.leaves.below

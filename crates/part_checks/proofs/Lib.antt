@@ -10,4 +10,5 @@ mod Rules
 mod SeenZones
 mod ServerNames
 mod ShorterNames
+pub mod SkippedZones
 mod TakenZones

@@ -27,9 +27,9 @@ use Rattle.part_laws.proofs.LocalNames.{held_or_not}
 use Rattle.part_laws.proofs.WithPrefixes.{root_there, prefixes_there, met_there}
 use Rattle.part_names.specs.PartNames.{is_own}
 use Rattle.part_names.specs.declared.names.PartNames.{PartNames}
-use Rattle.part_checks.specs.Outside.{first_outside, is_outside, parent, zone_names, HasOutside, IsApart, IsBelowHeld, IsLasting, IsPassed, IsTold}
+use Rattle.part_checks.specs.Outside.{first_outside, is_outside, parent, zone_names, HasOutside, IsApart, IsBelowHeld, IsLasting, IsPassed, IsHeldOrAtAway}
 use Rattle.part_checks.specs.Parts.{held_by}
-use Rattle.part_checks.specs.Rules.{IsHeldOrTold, Keeps}
+use Rattle.part_checks.specs.Rules.{IsHeldOrLeavesAtAway, Keeps}
 use Rattle.part_checks.specs.Short.{HasShorter}
 use Rattle.part_checks.specs.Targets.{IsLed, LeadsInside}
 use Rattle.part_checks.specs.declared.fault.PartRule.{PartRule}
@@ -157,9 +157,9 @@ module _ (names : PartNames) where
         (one, one.beside ∙ parent_is above label)
 
     -- what is told is held, or leaves the held names at one that is told as away
-    told_held : (name : Labels) → IsTold names name → IsHeldOrTold names name
+    told_held : (name : Labels) → IsHeldOrAtAway names name → IsHeldOrLeavesAtAway names name
     told_held name told = by (first_outside names name) refl where
-      by : (o : Option Labels) → first_outside names name ≡ o → IsHeldOrTold names name
+      by : (o : Option Labels) → first_outside names name ≡ o → IsHeldOrLeavesAtAway names name
       by None e =
           inl (from_listed (held_by names) name
           (from_not (is_among (held_by names) name) (found_none (is_outside names) (prefixes name) name e (prefixes_have name name ([], append-nil name)))))

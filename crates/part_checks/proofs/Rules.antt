@@ -12,13 +12,13 @@ use Rattle.part_laws.proofs.WithPrefixes.{root_there, prefixes_there, met_there}
 use Rattle.part_names.specs.PartNames.{is_own}
 use Rattle.part_names.specs.declared.names.PartNames.{PartNames}
 use Rattle.part_checks.specs.Parts.{held_by}
-use Rattle.part_checks.specs.Rules.{IsHeldOrTold, Keeps}
+use Rattle.part_checks.specs.Rules.{IsHeldOrLeavesAtAway, Keeps}
 use Rattle.part_checks.specs.declared.fault.PartRule.{PartRule}
 use Rattle.part_checks.specs.declared.fault.PartRule.TheVariants.{Met, Exists, Short, Apart, Alias, Redirects, Referral, Own, Away}
 
 module _ (whole : Config) (names : PartNames) (keeps : (rule : PartRule) → Keeps whole names rule) where
   -- what is told as away is no base name of the whole where a name leaves the held ones
-  told_away : (name : Labels) → IsHeldOrTold names name → IsHeldOrAway whole (held_by names) name
+  told_away : (name : Labels) → IsHeldOrLeavesAtAway names name → IsHeldOrAway whole (held_by names) name
   told_away name (inl held) = inl held
   told_away name (inr told) =
       inr (record {

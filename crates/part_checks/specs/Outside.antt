@@ -57,8 +57,8 @@ abbrev pub IsLasting : PartNames → Zone → Labels → Type 0
 IsLasting names left name = (front : Labels) → first_outside names name ≡ Some front → exists_in left (parent front) ≡ true
 
 -- the name is held, or leaves the held names at what is told as away
-abbrev pub IsTold : PartNames → Labels → Type 0
-IsTold names name = (front : Labels) → first_outside names name ≡ Some front → is_among names.away front ≡ true
+abbrev pub IsHeldOrAtAway : PartNames → Labels → Type 0
+IsHeldOrAtAway names name = (front : Labels) → first_outside names name ≡ Some front → is_among names.away front ≡ true
 
 -- the name above this one isn't at or below the owner or the target of the redirection
 abbrev pub IsApart : Redirection → Labels → Type 0

@@ -25,15 +25,15 @@ pub record StartLeaves (whole : Config) (names : PartNames) (above : Labels) (la
   pub leaves : LeavesAt (held_by names) start above label
 
 -- the name leaves the held names at one that is told as away
-pub record LeavesTold (names : PartNames) (name : Labels) : Type 0 where
+pub record LeavesAtAway (names : PartNames) (name : Labels) : Type 0 where
   pub above : Labels
   pub label : List ℕ
   pub leaves : LeavesAt (held_by names) name above label
   pub told : Contains names.away (above ++ label ∷ [])
 
 -- the name is held, or leaves the held names at one that is told as away
-abbrev pub IsHeldOrTold : PartNames → Labels → Type 0
-IsHeldOrTold names name = Contains (held_by names) name ⊎ LeavesTold names name
+abbrev pub IsHeldOrLeavesAtAway : PartNames → Labels → Type 0
+IsHeldOrLeavesAtAway names name = Contains (held_by names) name ⊎ LeavesAtAway names name
 
 -- an NS record of a delegation that is left has a name server that may have glue at or below the zone cut, or whose address
 -- may have to be learnt
@@ -61,10 +61,10 @@ Keeps whole names Apart =
     → (is_prefix redirection.owner above ≡ false) × (is_prefix redirection.target above ≡ false)
 Keeps whole names Alias =
     (zone : Zone) (rr : Rr) (target : Labels) → HasRecord (restricted (held_by names) whole) zone rr → rr.rdata ≡ data_of.Cname target
-    → IsHeldOrTold names target
+    → IsHeldOrLeavesAtAway names target
 Keeps whole names Redirects =
-    (redirection : Redirection) → Contains (redirections_of (restricted (held_by names) whole)) redirection → IsHeldOrTold names redirection.target
-Keeps whole names Referral = (ns : Labels) → IsReferral whole names ns → IsHeldOrTold names ns
+    (redirection : Redirection) → Contains (redirections_of (restricted (held_by names) whole)) redirection → IsHeldOrLeavesAtAway names redirection.target
+Keeps whole names Referral = (ns : Labels) → IsReferral whole names ns → IsHeldOrLeavesAtAway names ns
 Keeps whole names Own =
     (start : Labels) → Contains (origins_and_owners whole) start
     → (above below : Labels) → start ≡ above ++ below → is_own names above ≡ true → Contains (held_by names) above

@@ -40,16 +40,16 @@ pub record IsSeen (names : PartNames) (outside : List Labels) (zone : Zone) : Ty
       → All (λ rr. IsLasting names (restricted_zone (held_by names) zone) rr.owner) zone.rrs
 
 -- These zones were taken since nothing was known of any. Their records lie at or below their origins. Either no rule is
--- broken, and they are all seen, or the rule that is told doesn't hold of some zone. The names outside are those where names
--- of the zones leave the held ones.
+-- broken, and they are all seen, or the rule that is told doesn't hold of some zone. The names outside are those where
+-- names of the zones leave the held ones.
 pub record AreSeen (taking : Taking) (taken : List Zone) : Type 0 where
   pub within : All KeepsWithin taken
   pub seen : taking.broken ≡ None → All (IsSeen taking.names taking.outside) taken
   pub leaves : (name : Labels) → Contains taking.outside name → SomeItem (λ zone. Leaves taking.names (zone_names zone) name) taken
   pub refuted : (rule : PartRule) (name : Labels) → taking.broken ≡ Some (rule, name) → All (FitsZone rule taking.names) taken → ⊥
 
--- Since it was the first of these it took these zones: it has the same names, and if nothing was known at first, what is known
--- now is known of these zones.
+-- Since it was the first of these it took these zones: it has the same names, and if nothing was known at first, what is
+-- known now is known of these zones.
 abbrev pub HasTaken : Taking → Taking → List Zone → Type 0
 HasTaken first taking taken = (taking.names ≡ first.names) × (AreSeen first [] → AreSeen taking taken)
 
@@ -60,8 +60,8 @@ PassesZone names zone (Ok fronts) =
     All (IsPassed names fronts) (zone_names zone) × ((name : Labels) → Contains fronts name → Leaves names (zone_names zone) name)
 PassesZone names zone (Err fault) = Refutes (λ rule. All (IsFitName rule names) (zone_names zone)) fault
 
--- what a pass over the zone and over what is left of it told: names outside, with which the zone is seen; or a rule by which
--- it doesn't fit
+-- what a pass over the zone and over what is left of it told: names outside, with which the zone is seen; or a rule by
+-- which it doesn't fit
 abbrev pub SeesZone : PartNames → Zone → Result (List Labels) PartFault → Type 0
 SeesZone names zone (Ok fronts) = IsSeen names fronts zone × ((name : Labels) → Contains fronts name → Leaves names (zone_names zone) name)
 SeesZone names zone (Err fault) = Refutes (λ rule. FitsZone rule names zone) fault

@@ -8,7 +8,7 @@ use Rattle.net_model.specs.Nearest.{is_configured, is_top}
 use Rattle.net_model.specs.declared.config.Config.{Config}
 use Rattle.net_model.specs.declared.config.Zone.{Zone}
 use Rattle.part_names.specs.declared.names.PartNames.{PartNames}
-use Rattle.part_checks.specs.Outside.{IsTold}
+use Rattle.part_checks.specs.Outside.{IsHeldOrAtAway}
 
 -- an NS record of this owner is of a delegation, and its name server may have glue there, or an address that may have to be
 -- learnt
@@ -18,9 +18,9 @@ may_matter config zone owner ns =
 
 -- what data of this owner lead to is held, or told as away where it leaves the held names
 abbrev pub LeadsInside : PartNames → Config → Zone → Labels → Rdata → Type 0
-LeadsInside names config zone owner (Cname target) = IsTold names target
-LeadsInside names config zone owner (Dname target) = IsTold names target
-LeadsInside names config zone owner (Ns target) = may_matter config zone owner target ≡ true → IsTold names target
+LeadsInside names config zone owner (Cname target) = IsHeldOrAtAway names target
+LeadsInside names config zone owner (Dname target) = IsHeldOrAtAway names target
+LeadsInside names config zone owner (Ns target) = may_matter config zone owner target ≡ true → IsHeldOrAtAway names target
 LeadsInside names config zone owner rdata = Unit {0}
 
 -- what the record leads to is held, or told as away where it leaves the held names

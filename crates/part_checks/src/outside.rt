@@ -59,8 +59,8 @@ fn put_owners(
     Ok(())
 }
 
-/// Puts the name behind others where the owner of a record leaves the held ones, if it does. It is known whether it is held,
-/// and the owner of the record before is passed.
+/// Puts the name behind others where the owner of a record leaves the held ones, if it does. It is known whether it is
+/// held, and the owner of the record before is passed.
 fn put_owner(
     alloc: Global,
     sets: &NameSets<'_>,
@@ -130,7 +130,8 @@ fn put_leaving(
     Ok(())
 }
 
-/// Where a name that isn't held leaves the held ones: it does at itself, if it stands beside another right below a held one.
+/// Where a name that isn't held leaves the held ones: it does at itself, if it stands beside another right below a held
+/// one.
 fn front_of(
     alloc: Global,
     sets: &NameSets<'_>,

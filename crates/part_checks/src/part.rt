@@ -24,8 +24,9 @@ use net_model::Config;
 use std::alloc::Global;
 
 impl<'a> PartTaker<'a> {
-    /// What is left of a configuration, the whole, whose zones were taken, where the names of the part are held, if they make
-    /// a part and all own names of the whole are held; else a condition that doesn't hold, with a name of which it doesn't.
+    /// What is left of a configuration, the whole, whose zones were taken, where the names of the part are held, if they
+    /// make a part and all own names of the whole are held; else a condition that doesn't hold, with a name of which it
+    /// doesn't.
     pub fn part_of(&self, alloc: Global, taken: Config) -> Result<Config, PartFault>
         ensures left { (whole : Config) → IsTakenWhole self.now whole taken → IfOk result (λ left. left ≡ restricted (held_by self.now.names) whole) }
         ensures kept { (whole : Config) → IsTakenWhole self.now whole taken → OnOk result ((rule : PartRule) → Keeps whole self.now.names rule) }

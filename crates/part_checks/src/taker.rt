@@ -6,6 +6,7 @@ ghost use Rattle.dns_data.specs.declared.rdata.Rr.{Rr};
 ghost use Rattle.dns_data.proofs.Membership.{from_filter};
 ghost use Rattle.part_checks.specs.Outside.{HasOutside, IsBelowHeld};
 ghost use Rattle.part_checks.specs.Parts.{held_by};
+ghost use Rattle.part_checks.specs.Skipped.{is_skipped};
 ghost use Rattle.part_checks.specs.Taking.{AreSeen, HasNoted, HasTaken, PassesZone, SeesZone};
 ghost use Rattle.part_laws.specs.Part.{restricted_zone};
 
@@ -15,6 +16,7 @@ use crate::left::left_zone;
 use crate::outside::{outside_of, put_outside};
 use crate::owners::held_owners;
 use crate::sets::NameSets;
+use crate::skipped::is_skipped;
 use config_load::ZoneTaker;
 use dns_data::{List, Name, NoMemory};
 use net_model::Zone;
@@ -106,6 +108,8 @@ fn lasting_outside(
 }
 
 impl<'a> ZoneTaker for PartTaker<'a> {
+    ghost skips = { λ taker. is_skipped taker.names };
+
     ghost left_of = { λ taker zone. restricted_zone (held_by taker.names) zone };
 
     ghost took = { HasTaken };
@@ -113,6 +117,10 @@ impl<'a> ZoneTaker for PartTaker<'a> {
     ghost origin = { λ taker zone. refl };
 
     ghost within = { λ taker zone keeps rr has. keeps rr (from_filter (λ (one : Rr). is_among (held_by taker.names) one.owner) zone.rrs rr has).0 };
+
+    fn passes_over(&self, origin: &Name) -> bool {
+        is_skipped(&self.sets, origin)
+    }
 
     fn take(&mut self, alloc: Global, zone: Zone) -> Result<Zone, NoMemory> {
         let held = held_owners(alloc, &self.sets, zone.rrs.items())?;

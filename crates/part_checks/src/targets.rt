@@ -2,7 +2,7 @@
 
 ghost use Rattle.std.specs.Prelude.{◌≡◌, ◌&&◌, ◌||◌, not, All, IfOk, IfErr, OnOk};
 ghost use Rattle.net_model.specs.Nearest.{is_configured, is_top, server_names};
-ghost use Rattle.part_checks.specs.Outside.{IsTold};
+ghost use Rattle.part_checks.specs.Outside.{IsHeldOrAtAway};
 ghost use Rattle.part_checks.specs.Claims.{rule_of};
 ghost use Rattle.part_checks.specs.Rules.{Refutes};
 ghost use Rattle.part_checks.specs.Targets.{IsLed, may_matter};
@@ -136,11 +136,11 @@ fn rr_leads(
     ensures refused { IfErr result (Refutes (λ rule. rule_of rr.now.rdata ≡ rule → IsLed sets.now servers.now zone.now rr.now)) }
 {
     match &rr.rdata {
-        Rdata::Cname(target) => check_told(alloc, sets, PartRule::Alias, target),
-        Rdata::Dname(target) => check_told(alloc, sets, PartRule::Redirects, target),
+        Rdata::Cname(target) => check_at_away(alloc, sets, PartRule::Alias, target),
+        Rdata::Dname(target) => check_at_away(alloc, sets, PartRule::Redirects, target),
         Rdata::Ns(target) => {
             if may_matter(servers, zone, &rr.owner, target) {
-                check_told(alloc, sets, PartRule::Referral, target)
+                check_at_away(alloc, sets, PartRule::Referral, target)
             } else {
                 Ok(())
             }
@@ -157,14 +157,14 @@ fn may_matter(servers: &ServerSets<'_>, zone: &Zone, owner: &Name, target: &Name
 }
 
 /// Checks that a name is held, or leaves the held names at what is told as away.
-fn check_told(
+fn check_at_away(
     alloc: Global,
     sets: &NameSets<'_>,
     rule: PartRule,
     name: &Name,
 ) -> Result<(), PartFault>
-    ensures told { OnOk result (IsTold sets.now name.now) }
-    ensures refused { IfErr result (Refutes (λ other. rule ≡ other → IsTold sets.now name.now)) }
+    ensures told { OnOk result (IsHeldOrAtAway sets.now name.now) }
+    ensures refused { IfErr result (Refutes (λ other. rule ≡ other → IsHeldOrAtAway sets.now name.now)) }
 {
     match sets.first_outside(alloc, name)? {
         Some(front) => {

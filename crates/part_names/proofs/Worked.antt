@@ -4,14 +4,14 @@ use Rattle.part_names.specs.PartNames.{names_in}
 use Rattle.part_names.specs.declared.fault.NamesFault.TheVariants.{Line}
 
 -- the bounds, a held name and one that the whole doesn't have, in any order, with an empty line between
-a_part_is_told :
+a_part_is_read :
     names_in (codes "from a.\nkeep x.a.\n\naway c.\nto b.\n")
     ≡ Ok (record { from = Some (codes "a" ∷ []); to = Some (codes "b" ∷ []); held = (codes "a" ∷ codes "x" ∷ []) ∷ []; away = (codes "c" ∷ []) ∷ [] })
-a_part_is_told = refl
+a_part_is_read = refl
 
 -- an empty file tells no name
-nothing_is_told : names_in [] ≡ Ok (record { from = None; to = None; held = []; away = [] })
-nothing_is_told = refl
+nothing_is_read : names_in [] ≡ Ok (record { from = None; to = None; held = []; away = [] })
+nothing_is_read = refl
 
 -- a bound is told once
 two_bounds_are_a_fault : names_in (codes "from a.\nfrom b.\n") ≡ Err (Line 2)

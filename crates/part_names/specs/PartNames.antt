@@ -40,15 +40,15 @@ with_name names Keep name = Some (record { from = names.from; to = names.to; hel
 with_name names Away name = Some (record { from = names.from; to = names.to; held = names.held; away = names.away ++ name ∷ [] })
 
 -- the names with this one, if there is one
-abbrev pub with_told : PartNames → NameWord → Result Labels NameFault → Option PartNames
-with_told names word (Ok name) = with_name names word name
-with_told names word (Err fault) = None
+abbrev pub with_read_name : PartNames → NameWord → Result Labels NameFault → Option PartNames
+with_read_name names word (Ok name) = with_name names word name
+with_read_name names word (Err fault) = None
 
 -- the names with what a line tells
 abbrev pub with_line : PartNames → List ℕ → Option PartNames
 with_line names line =
     if length line == 0 then Some names
-    else option_and_then (λ told. with_told names told.0 (name_of_text told.1 [])) (word_in line)
+    else option_and_then (λ named. with_read_name names named.0 (name_of_text named.1 [])) (word_in line)
 
 -- the names with what lines tell, or the number of the first that tells nothing, counted on from this one
 abbrev pub with_lines : ℕ → PartNames → List (List ℕ) → Result PartNames NamesFault

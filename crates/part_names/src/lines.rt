@@ -35,7 +35,7 @@ fn line_end(text: &[u8]) -> Option<usize>
 
 /// The word of a line, and the text behind the space that follows it.
 pub(crate) fn word_in(line: &[u8]) -> Option<(NameWord, &[u8])>
-    ensures { option_map (λ told. (told.0, told.1.now)) result ≡ word_in line.now }
+    ensures { option_map (λ named. (named.0, named.1.now)) result ≡ word_in line.now }
 {
     if let Some(text) = line.strip_prefix(b"from ") {
         return Some((NameWord::From, text));

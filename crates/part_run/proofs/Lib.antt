@@ -1,4 +1,4 @@
 mod EntriesClassed
-mod OwnTree
+pub mod OwnTree
 mod PartReported
 mod TextMade

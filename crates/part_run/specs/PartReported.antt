@@ -27,8 +27,8 @@ faults_status [] = Clean
 faults_status (entry ∷ entries) = Faults
 
 -- the run ends with what is written of a part
-abbrev pub part_told : WrittenPart → Ending
-part_told written = with_output (faults_status (map (λ classed. classed.entry) written.entries)) (part_text written)
+abbrev pub with_part : WrittenPart → Ending
+with_part written = with_output (faults_status (map (λ classed. classed.entry) written.entries)) (part_text written)
 
 -- the run ends with the report of the part of the whole that has these names
 pub record IsPartReported (whole : Config) (rewrites : ℕ) (names : PartNames) (ending : Ending) : Type 0 where
@@ -37,7 +37,7 @@ pub record IsPartReported (whole : Config) (rewrites : ℕ) (names : PartNames) 
   pub names_are : reported.names ≡ with_prefixes names.held
   pub from_is : reported.written.from ≡ names.from
   pub to_is : reported.written.to ≡ names.to
-  pub as_text : ending ≡ part_told reported.written
+  pub as_text : ending ≡ with_part reported.written
 
 -- what is told of a part: its report, unless the class tree of what is left has too many names, or a representative there
 -- reaches too many pairs of state and type

@@ -23,7 +23,7 @@ use Rattle.run_endings.specs.declared.status.Status.TheVariants.{Usage}
 use Rattle.parts_run.specs.Answered.{IsNotRead, answered}
 use Rattle.parts_run.specs.declared.fault.ReadFault.{ReadFault}
 use Rattle.parts_run.specs.declared.fault.ReadFault.TheVariants.{NotReport, Load}
-use Rattle.parts_run.specs.Outcome.{IsToldOf, TellsMerged, faults_status}
+use Rattle.parts_run.specs.Outcome.{IsEndingOf, TellsMerged, faults_status}
 use Rattle.parts_run.specs.Reading.{reports_read}
 use Rattle.parts_run.specs.Runs.{JobEnds}
 use Rattle.parts_run.specs.Words.{usage_line}
@@ -35,7 +35,7 @@ by_test : (test : Bool) (out : List ℕ) → Says (faults_status test) out
 by_test true out = tt
 by_test false out = tt
 
-of_answer : (names : List (List ℕ)) (answer : Result MergedText MergeFault) (ending : Ending) → IsToldOf names answer ending → SaysSo ending
+of_answer : (names : List (List ℕ)) (answer : Result MergedText MergeFault) (ending : Ending) → IsEndingOf names answer ending → SaysSo ending
 of_answer names (Ok merged) ending is = subst SaysSo (sym is) (by_test merged.has_faults merged.text)
 of_answer names (Err merge_faults.NoMemory) ending never = absurd never
 of_answer names (Err (merge_faults.OtherRewrites number)) ending is = subst SaysSo (sym is) refl

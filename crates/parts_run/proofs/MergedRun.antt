@@ -23,7 +23,7 @@ use Rattle.run_endings.specs.Endings.{OfReading}
 use Rattle.run_endings.specs.declared.ending.Ending.{Ending}
 use Rattle.run_endings.specs.declared.status.Status.{Status}
 use Rattle.run_endings.specs.declared.status.Status.TheVariants as statuses
-use Rattle.parts_run.specs.Outcome.{IsToldOf, Outcome, TellsMerged, faults_status}
+use Rattle.parts_run.specs.Outcome.{IsEndingOf, Outcome, TellsMerged, faults_status}
 use Rattle.parts_run.specs.Reading.{report_or, reports_read}
 use Rattle.parts_run.specs.Runs.{EndsAsAsked, MergesParts, WritesReport}
 use Rattle.parts_run.specs.Words.{job_of}
@@ -55,7 +55,7 @@ module _ (config : Config) (rewrites : ℕ) (reports : List Reported) (right : A
   refused : (fault : MergeFault) → (fault ≡ NoMemory → ⊥) → IsMerged (all_read reports) (Err fault) → ending.status ≡ statuses.Refused → Writes
   refused fault other is so = inr (inl (so, λ order. other (never_refused config rewrites reports right order fault is)))
 
-  by_answer : (answer : Result MergedText MergeFault) → IsMerged (all_read reports) answer → IsToldOf names answer ending → GotText out ending.out → Writes
+  by_answer : (answer : Result MergedText MergeFault) → IsMerged (all_read reports) answer → IsEndingOf names answer ending → GotText out ending.out → Writes
   by_answer (Ok merged) is tells got =
       let whole = merged_whole config rewrites reports right merged is in
       inl (record {

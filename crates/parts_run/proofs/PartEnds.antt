@@ -1,25 +1,21 @@
 -- How a run ends that reads the names of a part, and the configuration behind them.
-use Rattle.std.proofs.Common.{◌≡◌, ◌∙◌, ℕ, ◌+◌, ◌≤◌, ◌<◌, Bool, true, false, cond, List, [], ◌∷◌, length, Some, Result, Ok, Err, if◌then◌else◌, nat_eq, sym, subst, ap, inl, inr, refl, arith}
-use Rattle.std.specs.Prelude.{◌⊎◌, ◌^◌, nat_le}
-use Rattle.std.proofs.lemmas.Bool.{leb-true}
-use Rattle.std.proofs.Math.Nat.{min-le_right}
-use lib.Pointwise.{pointwise}
-use Rattle.dns_data.proofs.Names.{label_eq_decides}
+use Rattle.std.proofs.Common.{◌≡◌, ◌∙◌, ℕ, List, [], ◌∷◌, Some, Result, Ok, Err, sym, subst, ap, inl, inr, refl}
+use Rattle.std.specs.Prelude.{◌⊎◌}
+use Rattle.std.proofs.Math.Nat.{le_refl}
 use Rattle.io_edges.specs.Counts.{NoneFell}
-use Rattle.io_edges.specs.Files.{FilesTold, Told, Untold, NotHeld, Holds, StaysTold, TellsAll}
-use Rattle.config_load.specs.Conf.{conf_within}
+use Rattle.io_edges.specs.Files.{FilesTold, StaysTold, TellsAll}
+use Rattle.config_load.specs.Conf.{conf_unless, row_skips}
 use Rattle.config_load.specs.Faults.{FailedAt}
-use Rattle.config_load.specs.Limits.{largest_limits, largest_octets, most_octets}
-use Rattle.config_load.specs.Load.{ComesToFile, FailedWhereItCame, Gives, OpensNoOther, without}
-use Rattle.config_load.specs.Reading.{Reading, Reads, Refuses, Misses, Unknown, ◌>>=◌, file_octets, told_octets}
+use Rattle.config_load.specs.Limits.{largest_limits}
+use Rattle.config_load.specs.Load.{ComesToFile, FailedWhereItCame, Gives, OpensNoOther}
+use Rattle.config_load.specs.Reading.{Reading, Reads, Refuses, Misses, Unknown, ◌>>=◌, file_octets}
 use Rattle.config_load.specs.Taken.{GivesLeft, IsLeftOf, config_left}
 use Rattle.config_load.specs.declared.fault.LoadFault.{LoadFault}
-use Rattle.config_load.specs.declared.fault.LoadFault.TheVariants.{TooLong}
 use Rattle.config_load.specs.declared.limits.Limits.{Limits}
-use Rattle.config_load.proofs.Sources.{rose_then}
-use Rattle.config_load.proofs.Steady.{comes_later, file_is_steady, reads_later}
+use Rattle.config_load.proofs.Steady.{comes_behind, comes_first, file_is_steady, reads_later}
 use Rattle.net_model.specs.declared.config.Config.{Config}
 use Rattle.part_checks.specs.Parts.{held_by}
+use Rattle.part_checks.specs.Skipped.{is_skipped}
 use Rattle.part_checks.specs.Taking.{AreSeen, HasTaken, IsTakenWhole, Taking}
 use Rattle.part_laws.specs.Part.{restricted_zone}
 use Rattle.part_names.specs.declared.fault.NamesFault.{NamesFault}
@@ -28,12 +24,12 @@ use Rattle.part_names.specs.declared.names.PartNames.{PartNames}
 use Rattle.part_run.specs.PartReported.{ReportsPart, faults_status}
 use Rattle.graph_form.specs.declared.report.ReportEntry.{ReportEntry}
 use Rattle.report_run.specs.declared.judging.CheckLimits.{CheckLimits}
-use Rattle.run_endings.proofs.AsAsked.{Says, SaysSo, as_asked, not_loaded, over_read, reading_says}
-use Rattle.run_endings.specs.Ends.{EndsOver, EndsWithout, IsNotLoaded}
+use Rattle.run_endings.proofs.AsAsked.{Says, SaysSo, as_asked, ends_weaker, not_loaded, over_read, reading_says}
+use Rattle.run_endings.specs.Ends.{EndsOver, IsNotLoaded}
 use Rattle.run_endings.specs.Endings.{OfReading, no_memory, refused}
 use Rattle.run_endings.specs.Runs.{FilesOfRun}
 use Rattle.run_endings.specs.declared.ending.Ending.{Ending}
-use Rattle.parts_run.specs.PartTold.{TellsPart, TellsRead, bad_line, behind_names, part_files}
+use Rattle.parts_run.specs.PartTold.{TellsPart, TellsRead, bad_line, behind_names, config_for, part_files}
 use Rattle.parts_run.specs.Runs.{JobEnds}
 use Rattle.parts_run.specs.declared.words.PartsJob.TheVariants.{Part}
 
@@ -59,91 +55,28 @@ read_says limits file (Err NoMemory) ending never = absurd never
 
 -- ---- a reading behind that of a file
 
-module _ {T : Type 0} (limits : Limits) (file : List ℕ) (next : FilesTold → List ℕ → Reading T) where
+module _ {T : Type 0} (limits : Limits) (file : List ℕ) (next : FilesTold → List ℕ → Reading T) (meta : List ℕ) (of_value : T → Ending → Type 0) (ending : Ending) where
   -- the reading of the file
   abbrev first : FilesTold → Reading (List ℕ)
   first = file_octets limits file
 
-  -- the reading of the file, and what follows
-  abbrev all : FilesTold → Reading T
-  all told = first told >>= next told
-
-  -- without another file the file's octets are what they were
-  first_without : (told : FilesTold) (other : List ℕ) → (first (without other told) ≡ first told) ⊎ ComesToFile first told other
-  first_without told other = by (pointwise nat_eq file other) refl where
-    by : (b : Bool) → pointwise nat_eq file other ≡ b → (first (without other told) ≡ first told) ⊎ ComesToFile first told other
-    by true e =
-        inr (ap (λ (b : Bool). told_octets limits file (if b then Untold else told file)) e
-        ∙ ap {B = Reading (List ℕ)} Unknown ((label_eq_decides file other).0 e))
-    by false e = inl (ap (λ (b : Bool). told_octets limits file (if b then Untold else told file)) e)
-
-  -- both come to the file, and to those to which what follows comes
-  comes_to_it : (told : FilesTold) (other : List ℕ) → ComesToFile first told other → ComesToFile all told other
-  comes_to_it told other comes = ap (λ (read : Reading (List ℕ)). read >>= next (without other told)) comes
-
-  comes_behind : (told : FilesTold) (octets other : List ℕ) → first told ≡ Reads octets → ComesToFile (λ told. next told octets) told other → ComesToFile all told other
-  comes_behind told octets other is comes = by (first_without told other) where
-    by : (first (without other told) ≡ first told) ⊎ ComesToFile first told other → ComesToFile all told other
-    by (inl same) = ap (λ (read : Reading (List ℕ)). read >>= next (without other told)) (same ∙ is) ∙ comes
-    by (inr earlier) = comes_to_it told other earlier
-
-  -- no file is opened but those to which both come
-  pub opens_behind : (before between after : FilesTold) (octets : List ℕ) → StaysTold between after → first between ≡ Reads octets
-      → OpensNoOther first before between → OpensNoOther (λ told. next told octets) between after → OpensNoOther all before after
-  opens_behind before between after octets stays is a b other = by (a other) (b other) where
-    by : (between other ≡ before other) ⊎ ComesToFile first between other → (after other ≡ between other) ⊎ ComesToFile (λ told. next told octets) after other
-        → (after other ≡ before other) ⊎ ComesToFile all after other
-    by (inl kept) (inl same) = inl (same ∙ kept)
-    by (inr comes) (inl same) = inr (comes_to_it after other (comes_later (file_is_steady limits file) between after other stays comes))
-    by earlier (inr comes) = inr (comes_behind after octets other (reads_later (file_is_steady limits file) between after octets stays is) comes)
-
-  -- where the file gives nothing, no other is opened
-  pub opens_it : (before after : FilesTold) → OpensNoOther first before after → OpensNoOther all before after
-  opens_it before after a other = by (a other) where
-    by : (after other ≡ before other) ⊎ ComesToFile first after other → (after other ≡ before other) ⊎ ComesToFile all after other
-    by (inl same) = inl same
-    by (inr comes) = inr (comes_to_it after other comes)
-
-  module _ (meta : List ℕ) (of_value : T → Ending → Type 0) (ending : Ending) where
-    -- a run that read the file ends as what follows says
-    pub over_behind : (between told : FilesTold) (before middle after : List ℕ → ℕ) (octets : List ℕ) → first between ≡ Reads octets → StaysTold between told → NoneFell before middle
-        → EndsOver {T = T} meta (λ told. next told octets) of_value told middle after ending → EndsOver {T = T} meta all of_value told before after ending
-    over_behind between told before middle after octets reads stays none ends = by ends where
+  -- a run that read the file ends as what follows says
+  pub over_behind : (between told : FilesTold) (before middle after : List ℕ → ℕ) (octets : List ℕ) → first between ≡ Reads octets → StaysTold between told → NoneFell before middle
+      → EndsOver {T = T} meta (λ told. next told octets) of_value told middle after ending → EndsOver {T = T} meta (λ told. first told >>= next told) of_value told before after ending
+  over_behind between told before middle after octets reads stays none =
+      ends_weaker before middle after ending none (λ outcome. subst (λ (read : Reading (List ℕ)). OfReading meta of_value (read >>= next told) ending) (sym later) outcome)
+      (λ other comes. comes_behind first next (file_is_steady limits file) told octets other later comes)
+    where
       later : first told ≡ Reads octets
       later = reads_later (file_is_steady limits file) between told octets stays reads
 
-      by : EndsOver {T = T} meta (λ told. next told octets) of_value told middle after ending → EndsOver {T = T} meta all of_value told before after ending
-      by (inl outcome) = inl (subst (λ (read : Reading (List ℕ)). OfReading meta of_value (read >>= next told) ending) (sym later) outcome)
-      by (inr (inl (other, is, comes, rose))) =
-          inr (inl (other, is, comes_behind told octets other later comes, rose_then (before other) (middle other) (after other) (none other) rose))
-      by (inr (inr ran_out)) = inr (inr ran_out)
-
-    -- a run that didn't read the file ends by that
-    pub over_unread : (told : FilesTold) (before after : List ℕ → ℕ) (fault : LoadFault) → Gives {T = List ℕ} (first told) (Err fault)
-        → FailedWhereItCame {T = List ℕ} first told (Err fault) → FailedAt {T = List ℕ} before after (Err fault) → IsNotLoaded meta fault ending ⊎ (ending ≡ no_memory)
-        → EndsOver {T = T} meta all of_value told before after ending
-    over_unread told before after fault gives came failed is = by (not_loaded meta first told before after ending fault gives came failed is) where
-      by : EndsWithout {T = List ℕ} meta first told before after ending → EndsOver {T = T} meta all of_value told before after ending
-      by (inl (fault, refuses, is)) = inl (subst (λ (read : Reading (List ℕ)). OfReading meta of_value (read >>= next told) ending) (sym refuses) is)
-      by (inr (inl (other, is, comes, rose))) = inr (inl (other, is, comes_to_it told other comes, rose))
-      by (inr (inr ran_out)) = inr (inr ran_out)
-
--- ---- the file of the names
-
--- a file has fewer octets than there are numbers of 32 bits, and one less
-pub file_is_short : (limits : Limits) (file : List ℕ) (told : FilesTold) (octets here : List ℕ) → here ≡ octets → file_octets limits file told ≡ Reads octets → length here + 1 < 2 ^ 32
-file_is_short limits file told octets here same reads = subst (λ (all : List ℕ). length all + 1 < 2 ^ 32) (sym same) (by (told file) reads) where
-  by : (one : Told) → told_octets limits file one ≡ Reads octets → length octets + 1 < 2 ^ 32
-  by Untold is = cc
-  by NotHeld is = cc
-  by (Holds held) is = within (nat_le (length held) (most_octets limits)) refl is where
-    within : (b : Bool) → nat_le (length held) (most_octets limits) ≡ b → cond b (Reads held) (Refuses (TooLong file)) ≡ Reads octets → length octets + 1 < 2 ^ 32
-    within true fits e =
-        let few : length held ≤ most_octets limits = leb-true (length held) (most_octets limits) fits in
-        let least : most_octets limits ≤ largest_octets = min-le_right limits.octets largest_octets in
-        let all : held ≡ octets = cc in
-        subst (λ (xs : List ℕ). length xs + 1 < 2 ^ 32) all (omega (arith, few, least))
-    within false over e = cc
+  -- a run that didn't read the file ends by that
+  pub over_unread : (told : FilesTold) (before after : List ℕ → ℕ) (fault : LoadFault) → Gives {T = List ℕ} (first told) (Err fault)
+      → FailedWhereItCame {T = List ℕ} first told (Err fault) → FailedAt {T = List ℕ} before after (Err fault) → IsNotLoaded meta fault ending ⊎ (ending ≡ no_memory)
+      → EndsOver {T = T} meta (λ told. first told >>= next told) of_value told before after ending
+  over_unread told before after fault gives came failed is =
+      ends_weaker before before after ending (λ other. le_refl (before other)) (λ (fault, refuses, is). subst (λ (read : Reading (List ℕ)). OfReading meta of_value (read >>= next told) ending) (sym refuses) is)
+      (λ other comes. comes_first first next told other comes) (not_loaded meta first told before after ending fault gives came failed is)
 
 -- ---- the configuration behind the names
 
@@ -161,29 +94,29 @@ module _ (limits : CheckLimits) (meta file : List ℕ) where
   with_names names ending (Misses other) never = never
   with_names names ending (Unknown other) never = never
 
-  comes_with : (names : PartNames) (told : FilesTold) (other : List ℕ) → ComesToFile (conf_within largest_limits meta) told other → ComesToFile (behind (Ok names)) told other
+  comes_with : (names : PartNames) (told : FilesTold) (other : List ℕ) → ComesToFile (config_for names meta) told other → ComesToFile (behind (Ok names)) told other
   comes_with names told other comes = ap (λ (read : Reading Config). read >>= λ config. Reads (Ok (names, config))) comes
 
   -- a run over the configuration is one over what files give behind these names
   pub over_names : (names : PartNames) (read : Result PartNames NamesFault) → read ≡ Ok names → (told : FilesTold) (before after : List ℕ → ℕ) (ending : Ending)
-      → EndsOver {T = Config} meta (conf_within largest_limits meta) (λ config ending. TellsPart limits file config names ending) told before after ending
+      → EndsOver {T = Config} meta (config_for names meta) (λ config ending. TellsPart limits file config names ending) told before after ending
       → EndsOver {T = Result (PartNames × Config) NamesFault} meta (behind read) (TellsRead limits file) told before after ending
   over_names names read same told before after ending ends =
       subst (λ (one : Result PartNames NamesFault). EndsOver {T = Result (PartNames × Config) NamesFault} meta (behind one) (TellsRead limits file) told before after ending) (sym same) (by ends)
     where
-      by : EndsOver {T = Config} meta (conf_within largest_limits meta) (λ config ending. TellsPart limits file config names ending) told before after ending
+      by : EndsOver {T = Config} meta (config_for names meta) (λ config ending. TellsPart limits file config names ending) told before after ending
           → EndsOver {T = Result (PartNames × Config) NamesFault} meta (behind (Ok names)) (TellsRead limits file) told before after ending
-      by (inl outcome) = inl (with_names names ending (conf_within largest_limits meta told) outcome)
+      by (inl outcome) = inl (with_names names ending (config_for names meta told) outcome)
       by (inr (inl (other, is, comes, rose))) = inr (inl (other, is, comes_with names told other comes, rose))
       by (inr (inr ran_out)) = inr (inr ran_out)
 
   -- no file is opened behind these names but those to which the configuration comes
   pub opens_names : (names : PartNames) (read : Result PartNames NamesFault) → read ≡ Ok names → (before after : FilesTold)
-      → OpensNoOther (conf_within largest_limits meta) before after → OpensNoOther (behind read) before after
+      → OpensNoOther (config_for names meta) before after → OpensNoOther (behind read) before after
   opens_names names read same before after opens =
       subst (λ (one : Result PartNames NamesFault). OpensNoOther (behind one) before after) (sym same) (λ other. by other (opens other))
     where
-      by : (other : List ℕ) → (after other ≡ before other) ⊎ ComesToFile (conf_within largest_limits meta) after other → (after other ≡ before other) ⊎ ComesToFile (behind (Ok names)) after other
+      by : (other : List ℕ) → (after other ≡ before other) ⊎ ComesToFile (config_for names meta) after other → (after other ≡ before other) ⊎ ComesToFile (behind (Ok names)) after other
       by other (inl kept) = inl kept
       by other (inr comes) = inr (comes_with names after other comes)
 
@@ -214,13 +147,14 @@ taken_whole first last whole taken none left = record {
 
 -- a run that took the zones of a configuration ends by what is told of it, or because memory ran out
 pub over_taken : (limits : CheckLimits) (meta file : List ℕ) (names : PartNames) (told : FilesTold) (before after : List ℕ → ℕ) (ending : Ending) (first last : Taking) (taken : Config)
-    → AreSeen first []
+    → AreSeen first [] → first.names ≡ names
     → (let result : Result Config LoadFault = Ok taken in
-    GivesLeft (restricted_zone (held_by first.names)) (HasTaken first last) (conf_within largest_limits meta told) result)
+    GivesLeft (restricted_zone (held_by first.names)) (HasTaken first last) (conf_unless (row_skips (is_skipped first.names)) largest_limits meta told) result)
     → ((whole : Config) → IsTakenWhole last whole taken → TellsPart limits file whole names ending ⊎ (ending ≡ no_memory))
-    → EndsOver {T = Config} meta (conf_within largest_limits meta) (λ config ending. TellsPart limits file config names ending) told before after ending
-over_taken limits meta file names told before after ending first last taken none (whole, reads, left) tells =
-    over_read meta (conf_within largest_limits meta) told before after ending (λ config ending. TellsPart limits file config names ending) whole reads
+    → EndsOver {T = Config} meta (config_for names meta) (λ config ending. TellsPart limits file config names ending) told before after ending
+over_taken limits meta file names told before after ending first last taken none same (whole, reads, left) tells =
+    over_read meta (config_for names meta) told before after ending (λ config ending. TellsPart limits file config names ending) whole
+    (subst (λ (all : PartNames). config_for all meta told ≡ Reads whole) same reads)
     (tells whole (taken_whole first last whole taken none left))
 
 -- how the run ends that reads the names of a part and then a configuration is how the run of the words ends that ask for it

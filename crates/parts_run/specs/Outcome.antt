@@ -47,14 +47,14 @@ fault_code TooMany = codes "too-many"
 fault_code NoMemory = codes "no-memory"
 
 -- the run ends by an answer to the reports of the files of these names; want of memory is no outcome
-abbrev pub IsToldOf : List (List ℕ) → Result MergedText MergeFault → Ending → Type 0
-IsToldOf files (Ok merged) ending = ending ≡ with_merged merged
-IsToldOf files (Err NoMemory) ending = ⊥
-IsToldOf files (Err fault) ending = ending ≡ refused_as (fault_file files fault) (fault_code fault)
+abbrev pub IsEndingOf : List (List ℕ) → Result MergedText MergeFault → Ending → Type 0
+IsEndingOf files (Ok merged) ending = ending ≡ with_merged merged
+IsEndingOf files (Err NoMemory) ending = ⊥
+IsEndingOf files (Err fault) ending = ending ≡ refused_as (fault_file files fault) (fault_code fault)
 
 -- what is told of what the files of these names gave: their reports merged, or why they aren't; or that a file holds none
 abbrev pub TellsMerged : List (List ℕ) → Result (List PartStated) (List ℕ) → Ending → Type 0
-TellsMerged files (Ok parts) ending = (answer : Result MergedText MergeFault) × IsMerged parts answer × IsToldOf files answer ending
+TellsMerged files (Ok parts) ending = (answer : Result MergedText MergeFault) × IsMerged parts answer × IsEndingOf files answer ending
 TellsMerged files (Err file) ending = ending ≡ refused_as file (codes "not-part-report")
 
 -- what the words' job gives, by what is told of the files; of `merge` no refusal is of a metadata file
@@ -63,8 +63,8 @@ Outcome told None ending = ending ≡ without_output Usage usage_line
 Outcome told (Some (Merge files)) ending = OfReading [] (TellsMerged files) (reports_read [] files told) ending
 Outcome told (Some (Part meta names limits)) ending = OfReading meta (TellsRead limits names) (part_files meta names told) ending
 
--- The job comes to the file: for `merge` the files before it hold reports; `part` comes to the file of the part's names, and
--- where it tells some, to the files of the configuration.
+-- The job comes to the file: for `merge` the files before it hold reports; `part` comes to the file of the part's names,
+-- and where it tells some, to the files of the configuration.
 abbrev pub JobComesTo : FilesTold → Option PartsJob → List ℕ → Type 0
 JobComesTo told None file = ⊥
 JobComesTo told (Some (Merge files)) file = ComesToFile (reports_read [] files) told file

@@ -3,12 +3,13 @@ use Rattle.std.specs.Prelude.{◌≡◌, ◌⊎◌, ℕ, List, ◌++◌, codes, 
 use Rattle.dns_data.specs.Name.{Labels}
 use Rattle.dns_data.specs.Spelling.{name_text}
 use Rattle.io_edges.specs.Files.{FilesTold}
-use Rattle.config_load.specs.Conf.{conf_within}
+use Rattle.config_load.specs.Conf.{conf_unless, row_skips}
 use Rattle.config_load.specs.Limits.{largest_limits}
 use Rattle.config_load.specs.Reading.{Reading, Reads, ◌>>=◌, file_octets}
 use Rattle.config_load.specs.Refusal.{fields_line}
 use Rattle.net_model.specs.declared.config.Config.{Config}
 use Rattle.part_checks.specs.Rules.{Keeps}
+use Rattle.part_checks.specs.Skipped.{is_skipped}
 use Rattle.part_checks.specs.declared.fault.PartRule.{PartRule}
 use Rattle.part_checks.specs.declared.fault.PartRule.TheVariants.{Met, Exists, Short, Apart, Alias, Redirects, Referral, Own, Away}
 use Rattle.part_names.specs.PartNames.{names_in}
@@ -55,13 +56,18 @@ TellsPart limits file config names ending =
     (((rule : PartRule) → Keeps config names rule) × ReportsPart limits.classes limits.rewrites names config ending)
     ⊎ IsRefusedPart file config names ending
 
--- what follows these names: the configuration of the metadata file; where there are none, nothing more is read
+-- what is read for the part that has these names: the configuration of the metadata file, of which rows are skipped whose
+-- zones have nothing that the part asks for but their origins
+abbrev pub config_for : PartNames → List ℕ → FilesTold → Reading Config
+config_for names meta = conf_unless (row_skips (is_skipped names)) largest_limits meta
+
+-- what follows these names: the configuration that is read for them; where there are none, nothing more is read
 abbrev pub behind_names : List ℕ → Result PartNames NamesFault → FilesTold → Reading (Result (PartNames × Config) NamesFault)
-behind_names meta (Ok names) told = conf_within largest_limits meta told >>= λ config. Reads (Ok (names, config))
+behind_names meta (Ok names) told = config_for names meta told >>= λ config. Reads (Ok (names, config))
 behind_names meta (Err fault) told = Reads (Err fault)
 
--- What the files of a part give: the names that the file of this name tells, and, where it tells some, the configuration of
--- the metadata file.
+-- What the files of a part give: the names that the file of this name tells, and, where it tells some, the configuration
+-- that is read for them.
 abbrev pub part_files : List ℕ → List ℕ → FilesTold → Reading (Result (PartNames × Config) NamesFault)
 part_files meta file told = file_octets largest_limits file told >>= λ octets. behind_names meta (names_in octets) told
 

@@ -3,6 +3,7 @@ use Rattle.std.specs.Prelude.{◌≡◌, ◌⊎◌, ℕ, not, ◌==◌, List, le
 use Rattle.std.specs.List.{AllZip}
 use Rattle.graph_form.specs.Report.{IsReport}
 use Rattle.graph_form.specs.declared.report.Report.{Report}
+use Rattle.io_edges.specs.Files.{FilesTold, StaysTold}
 use Rattle.net_model.specs.declared.config.Config.{Config}
 use Rattle.config_load.specs.Conf.{conf_within}
 use Rattle.config_load.specs.Limits.{largest_limits}
@@ -70,13 +71,14 @@ PassesLimit limits left status =
     (HasMoreNames left limits.classes × (status ≡ Classes))
     ⊎ (SomeClassPasses (whole_config left limits.rewrites) most_states × (status ≡ States))
 
--- If the configuration of the metadata file reads that the words ask about, and the file of a part's names tells some, out
--- got the report of this part, or the names make no part; or a budget is passed, or memory ran out.
+-- If the configuration of the metadata file reads that the words ask about, by what is told after the run and of the files
+-- that it didn't open, and the file of a part's names tells some, out got the report of this part, or the names make no
+-- part; or a budget is passed, or memory ran out.
 abbrev pub ReportsParts : List (List ℕ) → runs.FilesOfRun → runs.OutputOfRun → Status → Type 0
 ReportsParts words files out status =
-    (meta file octets : List ℕ) (limits : CheckLimits) (config : Config) (names : PartNames) → job_of words ≡ Some (Part meta file limits)
-    → conf_within largest_limits meta files.told_after ≡ Reads config
-    → file_octets largest_limits file files.told_after ≡ Reads octets → names_in octets ≡ Ok names
+    (meta file octets : List ℕ) (limits : CheckLimits) (config : Config) (names : PartNames) (later : FilesTold) → job_of words ≡ Some (Part meta file limits)
+    → StaysTold files.told_after later → conf_within largest_limits meta later ≡ Reads config
+    → file_octets largest_limits file later ≡ Reads octets → names_in octets ≡ Ok names
     → NoJobReadFailed files.told_after (job_of words) files.failed_before files.failed_after → runs.NoneFailed out
     → WritesPart config limits.rewrites names out status
     ⊎ (RefusesNames config names status ⊎ (PassesLimit limits (restricted (held_by names) config) status ⊎ (status ≡ NoMemory)))

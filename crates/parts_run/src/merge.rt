@@ -4,7 +4,7 @@ ghost use Rattle.std.specs.Prelude.{◌≡◌, ◌⊎◌, Ok, Err, map};
 ghost use Rattle.config_load.specs.Faults.{name_numbered};
 ghost use Rattle.part_form.specs.Stated.{part_of};
 ghost use Rattle.run_endings.specs.Endings.{no_memory};
-ghost use Rattle.parts_run.specs.Outcome.{IsToldOf, TellsMerged, fault_code, fault_file, refused_as, with_merged};
+ghost use Rattle.parts_run.specs.Outcome.{IsEndingOf, TellsMerged, fault_code, fault_file, refused_as, with_merged};
 
 use dns_data::{List, NoMemory, Text};
 use part_form::{MergeFault, MergedText, StatedPart, merged_text};
@@ -23,7 +23,7 @@ pub(crate) fn merged_ending(alloc: Global, names: &[Text], parts: List<StatedPar
 
 /// What is told of the reports of the files of these names that aren't merged.
 fn not_merged(alloc: Global, names: &[Text], fault: MergeFault) -> Ending
-    ensures { IsToldOf names.now (Err fault) result ⊎ (result ≡ no_memory) }
+    ensures { IsEndingOf names.now (Err fault) result ⊎ (result ≡ no_memory) }
 {
     match fault {
         MergeFault::NoMemory => Ending::no_memory(),

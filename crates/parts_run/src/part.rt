@@ -4,15 +4,13 @@ ghost use Rattle.std.specs.Prelude.{◌≡◌, ◌⊎◌, ◌+◌, ◌++◌, ◌
 ghost use Rattle.dns_data.specs.Spelling.{name_text};
 ghost use Rattle.io_edges.specs.Counts.{NoneFell};
 ghost use Rattle.io_edges.specs.Files.{StaysTold, TellsAll};
-ghost use Rattle.config_load.specs.Conf.{conf_within};
-ghost use Rattle.config_load.specs.Limits.{largest_limits};
 ghost use Rattle.config_load.specs.Load.{OpensNoOther};
 ghost use Rattle.report_run.specs.Judged.{AreLimits};
 ghost use Rattle.run_endings.specs.Ends.{EndsOver};
 ghost use Rattle.run_endings.specs.Endings.{no_memory};
 ghost use Rattle.part_checks.specs.Taking.{IsTakenWhole};
 ghost use Rattle.part_names.specs.PartNames.{names_in};
-ghost use Rattle.parts_run.specs.PartTold.{IsBroken, TellsPart, TellsRead, bad_line, behind_names, part_files, rule_code};
+ghost use Rattle.parts_run.specs.PartTold.{IsBroken, TellsPart, TellsRead, bad_line, behind_names, config_for, part_files, rule_code};
 
 use crate::merge::refused;
 use config_load::{Limits, load_taken, read_file};
@@ -98,10 +96,10 @@ fn of_names<F: Files, G: Gate + Sync, R: Threads + Wait + Sync>(
     gate: &G,
 ) -> Ending
     requires { AreLimits job.limits }
-    ensures cause { EndsOver job.entry.meta.now (conf_within largest_limits job.entry.meta.now)
+    ensures cause { EndsOver job.entry.meta.now (config_for names.now job.entry.meta.now)
         (λ config ending. TellsPart job.entry.limits job.entry.names.now config names.now ending) (F.told files.new) (F.faults files.old) (F.faults files.new) result }
     ensures stays { StaysTold (F.told files.old) (F.told files.new) }
-    ensures opens { OpensNoOther (conf_within largest_limits job.entry.meta.now) (F.told files.old) (F.told files.new) }
+    ensures opens { OpensNoOther (config_for names.now job.entry.meta.now) (F.told files.old) (F.told files.new) }
     ensures never_fall { NoneFell (F.faults files.old) (F.faults files.new) }
 {
     let Ok(mut taker) = PartTaker::new(alloc, names) else {
@@ -122,8 +120,8 @@ fn of_names<F: Files, G: Gate + Sync, R: Threads + Wait + Sync>(
     }
 }
 
-/// The report of the part that has these names, of a configuration whose zones were taken; or how a run ends since they make
-/// no part.
+/// The report of the part that has these names, of a configuration whose zones were taken; or how a run ends since they
+/// make no part.
 fn of_taken<G: Gate + Sync, R: Threads + Wait + Sync>(
     rt: &R,
     alloc: Global,

@@ -1,8 +1,9 @@
 -- How the run of a job ends is how the run of its words ends, whichever program runs it.
 use Rattle.std.proofs.Common.{◌≡◌, ℕ, List, [], Err, sym, subst, inl, inr, refl}
 use Rattle.std.specs.Prelude.{◌⊎◌, IsTrue}
-use Rattle.io_edges.specs.Counts.{Rose}
+use Rattle.io_edges.specs.Counts.{NoneFell, Rose}
 use Rattle.io_edges.specs.Files.{FilesTold, TellsAll}
+use Rattle.config_load.proofs.Sources.{rose_then}
 use Rattle.config_load.specs.Faults.{FailedAt}
 use Rattle.config_load.specs.Load.{FailedWhereItCame, Gives}
 use Rattle.config_load.specs.Reading.{Reading, Reads, Refuses, Misses, Unknown}
@@ -14,6 +15,14 @@ use Rattle.run_endings.specs.Runs.{FilesOfRun, Ends}
 use Rattle.run_endings.specs.declared.ending.Ending.{Ending}
 use Rattle.run_endings.specs.declared.status.Status.{Status}
 use Rattle.run_endings.specs.declared.status.Status.TheVariants.{Clean, Faults, ReadFault, WriteFault}
+
+-- a run ends so if it ended, behind counts that never fell, in what says so, and came to no other files
+pub ends_weaker : {EndsSo Ended : Type 0} {ComesTo Came : List ℕ → Type 0} (before middle after : List ℕ → ℕ) (ending : Ending) → NoneFell before middle → (Ended → EndsSo) → ((file : List ℕ) → Came file → ComesTo file)
+    → EndsOrFails Ended Came middle after ending → EndsOrFails EndsSo ComesTo before after ending
+ends_weaker before middle after ending none so comes (inl ended) = inl (so ended)
+ends_weaker before middle after ending none so comes (inr (inl (file, is, came, rose))) =
+    inr (inl (file, is, comes file came, rose_then (before file) (middle file) (after file) (none file) rose))
+ends_weaker before middle after ending none so comes (inr (inr ran_out)) = inr (inr ran_out)
 
 -- ---- by what the files give
 

@@ -1,8 +1,8 @@
 use Rattle.io_edges.proofs.Told.{TellsAll-same}
-use Rattle.config_load.specs.Conf.{conf_within}
+use Rattle.config_load.specs.Conf.{conf_unless, row_skips}
 use Rattle.config_load.proofs.LeftAnswers.{gives_left, left_cause, left_misses, left_order, left_unknown}
 use Rattle.config_load.proofs.Opens.{OpensNoOther-answers}
-use Rattle.config_load.proofs.Steady.{Gives-later, conf_is_steady}
+use Rattle.config_load.proofs.Steady.{Gives-later, conf_unless_is_steady}
 use Rattle.config_load.proofs.loading.load_taken.Goals as goal
 
 pub returns-clause-gives : goal.returns-clause-gives
@@ -10,7 +10,7 @@ returns-clause-gives g c = gives_left (g.F.Files.told c.read_taken.new.files) (�
 
 pub returns-clause-later : goal.returns-clause-later
 returns-clause-later g c later more =
-    gives_left later (λ answer gives. Gives-later (conf_is_steady c.args.limits c.args.meta.now) (g.F.Files.told c.read_taken.new.files) later answer more gives) c.read_taken.result c.read_taken.ensures
+    gives_left later (λ answer gives. Gives-later (conf_unless_is_steady (row_skips (g.T.ZoneTaker.skips c.args.taker.now)) c.args.limits c.args.meta.now) (g.F.Files.told c.read_taken.new.files) later answer more gives) c.read_taken.result c.read_taken.ensures
 
 pub returns-clause-cause : goal.returns-clause-cause
 returns-clause-cause g c = left_cause c.read_taken.result c.read_taken.ensures
@@ -33,7 +33,7 @@ returns-clause-from_the_start g c all =
 
 pub returns-clause-opens : goal.returns-clause-opens
 returns-clause-opens g c =
-    OpensNoOther-answers (conf_within c.args.limits c.args.meta.now) (g.F.Files.told c.args.files.now) (g.F.Files.told c.read_taken.new.files) c.read_taken.ensures.answered.source.opens
+    OpensNoOther-answers (conf_unless (row_skips (g.T.ZoneTaker.skips c.args.taker.now)) c.args.limits c.args.meta.now) (g.F.Files.told c.args.files.now) (g.F.Files.told c.read_taken.new.files) c.read_taken.ensures.answered.source.opens
 
 pub returns-clause-never_fall : goal.returns-clause-never_fall
 returns-clause-never_fall g c = c.read_taken.ensures.answered.source.never_fall

@@ -1,6 +1,6 @@
 use Rattle.std.proofs.Common.{List, Result, Ok, Err, refl, ap, subst, ◌∙◌}
 use Rattle.meta_read.specs.declared.meta.MetaRow.{MetaRow}
-use Rattle.config_load.specs.Conf.{no_rows, with_rows}
+use Rattle.config_load.specs.Conf.{no_rows, row_skips, with_rows_unless}
 use Rattle.config_load.specs.Sources.{HasAnswered}
 use Rattle.config_load.specs.declared.fault.LoadFault.{LoadFault}
 use Rattle.config_load.specs.declared.loaded.Loaded.{Loaded}
@@ -12,7 +12,7 @@ use Rattle.config_load.proofs.loading.read_left.Goals as goal
 pub returns-in_err-found : goal.returns-in_err-found
 returns-in_err-found g c =
     left_fault c.from_residual.result c.in_err-found.field-0.0 c.from_residual.ensures.1
-    (HasAnswered-no_metadata c.args.limits c.args.meta.now c.in_err-found.field-0.0 c.from_residual.result c.from_residual.ensures.1 c.in_err-found.ensures.reads)
+    (HasAnswered-no_metadata (row_skips (g.T.ZoneTaker.skips c.args.taker.now)) c.args.limits c.args.meta.now c.in_err-found.field-0.0 c.from_residual.result c.from_residual.ensures.1 c.in_err-found.ensures.reads)
 
 pub returns-in_err-rows : goal.returns-in_err-rows
 returns-in_err-rows g c =
@@ -20,8 +20,8 @@ returns-in_err-rows g c =
     let fault = c.in_err-rows.field-0.0 in
     let answer : Result ReadRows LoadFault = Err fault in
     left_fault c.from_residual-in_err-rows.result fault c.from_residual-in_err-rows.ensures.1
-    (HasAnswered-no_rows c.args.limits meta c.in_ok-found.found fault c.from_residual-in_err-rows.result c.from_residual-in_err-rows.ensures.1 c.in_ok-found.ensures.reads
-    (subst (λ (all : List MetaRow). HasAnswered (g.F.Files.told c.read_meta.new.files) (g.F.Files.told c.read_rows.new.files) (g.F.Files.faults c.read_meta.new.files) (g.F.Files.faults c.read_rows.new.files) (with_rows meta 1 all (no_rows c.args.limits)) answer) c.items.ensures
+    (HasAnswered-no_rows (row_skips (g.T.ZoneTaker.skips c.args.taker.now)) c.args.limits meta c.in_ok-found.found fault c.from_residual-in_err-rows.result c.from_residual-in_err-rows.ensures.1 c.in_ok-found.ensures.reads
+    (subst (λ (all : List MetaRow). HasAnswered (g.F.Files.told c.read_meta.new.files) (g.F.Files.told c.read_rows.new.files) (g.F.Files.faults c.read_meta.new.files) (g.F.Files.faults c.read_rows.new.files) (with_rows_unless (row_skips (g.T.ZoneTaker.skips c.args.taker.now)) meta 1 all (no_rows c.args.limits)) answer) c.items.ensures
     (of_fault fault c.in_err-rows.ensures)))
 
 pub returns : goal.returns
@@ -35,8 +35,8 @@ returns g c =
     record {
       whole = Ok all;
       answered =
-          HasAnswered-loaded c.args.limits meta found whole c.in_ok-found.ensures.reads
-          (subst (λ (all : List MetaRow). HasAnswered (g.F.Files.told c.read_meta.new.files) (g.F.Files.told c.read_rows.new.files) (g.F.Files.faults c.read_meta.new.files) (g.F.Files.faults c.read_rows.new.files) (with_rows meta 1 all (no_rows c.args.limits)) answer) c.items.ensures answered);
+          HasAnswered-loaded (row_skips (g.T.ZoneTaker.skips c.args.taker.now)) c.args.limits meta found whole c.in_ok-found.ensures.reads
+          (subst (λ (all : List MetaRow). HasAnswered (g.F.Files.told c.read_meta.new.files) (g.F.Files.told c.read_rows.new.files) (g.F.Files.faults c.read_meta.new.files) (g.F.Files.faults c.read_rows.new.files) (with_rows_unless (row_skips (g.T.ZoneTaker.skips c.args.taker.now)) meta 1 all (no_rows c.args.limits)) answer) c.items.ensures answered);
       is = (
         all,
         refl,

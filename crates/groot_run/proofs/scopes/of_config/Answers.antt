@@ -5,7 +5,7 @@ use Rattle.run_endings.specs.declared.ending.Ending.{Ending}
 use Rattle.groot_run.specs.NameList.{names_of}
 use Rattle.groot_run.specs.Outcome.{ScopesNames}
 use Rattle.groot_run.specs.Programs.{limits_of}
-use Rattle.groot_run.proofs.NameLists.{file_is_short}
+use Rattle.config_load.proofs.ShortFiles.{file_is_short}
 use Rattle.groot_run.proofs.Rechecked.{EndsWithin, over_file, over_no_file}
 use Rattle.groot_run.proofs.scopes.of_config.Goals as goal
 

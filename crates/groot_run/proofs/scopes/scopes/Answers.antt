@@ -1,8 +1,8 @@
-use Rattle.config_load.proofs.Steady.{conf_is_steady, opens_both, opens_first}
+use Rattle.config_load.proofs.Steady.{conf_is_steady, opens_both}
 use Rattle.config_load.specs.Reading.{file_octets}
 use Rattle.groot_run.specs.Outcome.{ScopesOf}
 use Rattle.groot_run.specs.Programs.{conf_of, limits_of}
-use Rattle.groot_run.proofs.TwoReadings.{over_both, over_neither}
+use Rattle.groot_run.proofs.TwoReadings.{opens_neither, over_both, over_neither}
 use Rattle.groot_run.proofs.scopes.scopes.Goals as goal
 
 pub returns-in-Ok-clause-cause : goal.returns-in-Ok-clause-cause
@@ -23,4 +23,4 @@ returns-in-Err-clause-cause g c =
 
 pub returns-in-Err-clause-opens : goal.returns-in-Err-clause-opens
 returns-in-Err-clause-opens g c =
-    opens_first (conf_of c.args.program c.args.meta.now) (file_octets (limits_of c.args.program) c.args.list.now) (g.F.Files.told c.args.files.now) (g.F.Files.told c.configuration.new.files) c.configuration.ensures.opens
+    opens_neither c.args.program c.args.meta.now (file_octets (limits_of c.args.program) c.args.list.now) (g.F.Files.told c.args.files.now) (g.F.Files.told c.configuration.new.files) c.configuration.ensures.opens

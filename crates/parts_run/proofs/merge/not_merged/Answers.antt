@@ -3,13 +3,13 @@ use Rattle.part_form.specs.declared.fault.MergeFault.{MergeFault}
 use Rattle.part_form.specs.declared.fault.MergeFault.TheVariants.{OtherRewrites, NotNext, NotLast, TooMany, NoMemory}
 use Rattle.part_form.specs.declared.merging.MergedText.{MergedText}
 use Rattle.run_endings.specs.declared.ending.Ending.{Ending}
-use Rattle.parts_run.specs.Outcome.{IsToldOf, fault_code, fault_file, refused_as}
+use Rattle.parts_run.specs.Outcome.{IsEndingOf, fault_code, fault_file, refused_as}
 use Rattle.parts_run.proofs.merge.not_merged.Goals as goal
 
 -- a refusal is told
 told_refusal : (names : List (List ℕ)) (fault : MergeFault) (ending : Ending) → (fault ≡ NoMemory → ⊥)
     → ending ≡ refused_as (fault_file names fault) (fault_code fault)
-    → (let answer : Result MergedText MergeFault = Err fault in IsToldOf names answer ending)
+    → (let answer : Result MergedText MergeFault = Err fault in IsEndingOf names answer ending)
 told_refusal names (OtherRewrites number) ending other is = is
 told_refusal names (NotNext number) ending other is = is
 told_refusal names NotLast ending other is = is

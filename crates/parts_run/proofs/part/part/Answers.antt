@@ -1,4 +1,6 @@
 use Rattle.std.proofs.Common.{ℕ, List, Result, subst, refl}
+use Rattle.config_load.proofs.ShortFiles.{file_is_short}
+use Rattle.config_load.proofs.Steady.{file_is_steady, opens_behind, opens_first}
 use Rattle.config_load.specs.Load.{OpensNoOther}
 use Rattle.config_load.specs.Reading.{◌>>=◌, file_octets}
 use Rattle.config_load.specs.declared.limits.Limits.{Limits}
@@ -13,7 +15,7 @@ use Rattle.run_endings.specs.declared.ending.Ending.{Ending}
 use Rattle.report_run.specs.declared.judging.CheckLimits.{CheckLimits}
 use Rattle.config_load.specs.Reading.{Reading}
 use Rattle.parts_run.specs.PartTold.{TellsRead, behind_names}
-use Rattle.parts_run.proofs.PartEnds.{file_is_short, opens_behind, opens_it, over_behind, over_unread}
+use Rattle.parts_run.proofs.PartEnds.{over_behind, over_unread}
 use Rattle.parts_run.proofs.part.part.Goals as goal
 
 -- what follows the octets of the names' file
@@ -52,7 +54,7 @@ returns-in-Ok-clause-opens g c =
     let before = g.F.Files.told c.args.files.now in
     let told = g.F.Files.told c.of_octets.new.files in
     subst (λ (within : Limits). OpensNoOther (λ told. file_octets within job.names.now told >>= next job.meta.now told) before told) c.largest.ensures
-    (opens_behind c.largest.result job.names.now (next job.meta.now) before (g.F.Files.told c.read_file.new.files) told c.in-Ok.octets
+    (opens_behind (file_octets c.largest.result job.names.now) (next job.meta.now) (file_is_steady c.largest.result job.names.now) before (g.F.Files.told c.read_file.new.files) told c.in-Ok.octets
     c.of_octets.ensures.stays c.in-Ok.ensures.gives c.read_file.ensures.opens c.of_octets.ensures.opens)
 
 pub returns-in-Err-clause-cause : goal.returns-in-Err-clause-cause
@@ -71,4 +73,4 @@ returns-in-Err-clause-opens g c =
     let before = g.F.Files.told c.args.files.now in
     let told = g.F.Files.told c.read_file.new.files in
     subst (λ (within : Limits). OpensNoOther (λ told. file_octets within job.names.now told >>= next job.meta.now told) before told) c.largest.ensures
-    (opens_it c.largest.result job.names.now (next job.meta.now) before told c.read_file.ensures.opens)
+    (opens_first (file_octets c.largest.result job.names.now) (next job.meta.now) before told c.read_file.ensures.opens)

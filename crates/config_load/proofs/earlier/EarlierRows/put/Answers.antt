@@ -1,4 +1,4 @@
-use Rattle.std.proofs.Common.{◌≡◌, ◌-◌, Some, subst}
+use Rattle.std.proofs.Common.{◌≡◌, ◌-◌, Some, subst, inr}
 use Rattle.std.specs.BTreeMap as map
 use Rattle.std.specs.Ordering.{nat_cmp}
 use Rattle.config_load.specs.declared.earlier.EarlierRow.{EarlierRow}
@@ -9,8 +9,8 @@ returns c =
     let made : record { row = c.args.place; zone = c.last_zone.result; records = c.saturating_sub.result; includes = c.saturating_sub-2.result }
     ≡ record { row = c.args.place; zone = c.last_zone.result; records = c.args.left.records - c.args.rows.now.left.records; includes = c.args.left.includes - c.args.rows.now.left.includes }
     = λ i. record { row = c.args.place; zone = c.last_zone.result; records = c.saturating_sub.ensures i; includes = c.saturating_sub-2.ensures i } in
-    record {
+    inr (record {
       number = c.row_number.result;
       zone = c.last_zone.result;
       updates = subst (λ (known : EarlierRow). map.Updates nat_cmp c.args.self.now.by_number c.insert.new.self c.row_number.result (Some known)) made c.in_ok-insert.ensures.updates;
-    }
+    })

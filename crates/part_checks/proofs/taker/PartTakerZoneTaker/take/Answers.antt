@@ -8,6 +8,7 @@ use Rattle.part_checks.specs.Claims.{IsFitName}
 use Rattle.part_checks.specs.Outside.{zone_names, IsBelowHeld, IsPassed, Leaves}
 use Rattle.part_checks.specs.Parts.{held_by}
 use Rattle.part_checks.specs.Rules.{Refutes}
+use Rattle.part_checks.specs.Skipped.{is_skipped}
 use Rattle.part_checks.specs.Taking.{PassesZone, SeesZone, Taking}
 use Rattle.part_checks.specs.declared.fault.PartFault.{PartFault}
 use Rattle.part_checks.proofs.Meets.{first_below}
@@ -70,3 +71,6 @@ returns-clause-took c = λ first zones has.
     let passes = passes_zone c.self.inside.sets zone c.outside_of-fronts.result c.outside_of-fronts.ensures.passed c.outside_of-fronts.ensures.leaves c.outside_of-fronts.ensures.refused in
     let sees = subst (λ (n : PartNames). SeesZone n zone seen) same (c.lasting_outside-seen.ensures zone c.in_ok-left.ensures passes) in
     (c.note.ensures.names ∙ has.0, λ told. seen_more zones zone c.requires c.args.self.now c.note.new.self seen none sees c.in_ok-note.ensures.noted (has.1 told))
+
+pub returns-in_err-note-clause-same_skips : goal.returns-in_err-note-clause-same_skips
+returns-in_err-note-clause-same_skips c = ap is_skipped c.note.ensures.names
