@@ -8,11 +8,15 @@ each into so many parts (2, 3 and 4), each part is checked by itself, and what i
 octet, the report of the whole, with the same status. So many times (3) a line is taken out of a part's file of names, or one of
 another part is put in: then the part is refused, or its report merges to the same octets, or the merge is refused.
 
+While a part of a drawn network is checked, the files of the rows that it must skip hold rubbish; and of each split once another
+file does too, which the part must refuse.
+
 It ends with status 1 at the first network that goes otherwise, whose files it leaves, and tells at the end how many parts were
 checked, how many were refused, and by which rules.
 """
 import argparse
 import collections
+import contextlib
 import importlib.machinery
 import importlib.util
 import json
@@ -95,6 +99,31 @@ class Network:
             json.dump({"TopNameServers": self.tops, "ZoneFiles": rows}, file)
 
 
+def labels_of(name):
+    """The labels of a name without escapes, the top one first."""
+    return tuple(reversed(name[:-1].split("."))) if name != "." else ()
+
+
+class Names:
+    """What a part's file of names says of the origins of zones: the interval, and which of them are held."""
+
+    def __init__(self, file, origins):
+        self.bounds, self.held = {}, {()}
+        with open(file, encoding="ascii") as lines:
+            for word, name in map(str.split, lines):
+                labels = labels_of(name)
+                if word == "keep":
+                    self.held.update(labels[:count] for count in range(1, len(labels) + 1) if labels[:count] in origins)
+                elif word != "away":
+                    self.bounds[word] = labels
+
+    def is_skipped(self, origin):
+        """Whether the origin isn't held, and no name at or below it is in the interval."""
+        begin, end = self.bounds.get("from", ()), self.bounds.get("to")
+        is_before = origin < begin and begin[:len(origin)] != origin
+        return origin not in self.held and (is_before or end is not None and end <= origin)
+
+
 def script(path):
     """A script of the repository, as a module, so that none is started for each split."""
     sys.path.insert(0, os.path.dirname(path))
@@ -120,9 +149,31 @@ class Trial:
     def at(self, name):
         return os.path.join(self.folder, name)
 
+    @contextlib.contextmanager
+    def spoilt(self, zones):
+        """While this lasts, these zone files of the drawn network hold rubbish."""
+        for zone in zones:
+            os.rename(self.at(zone), self.at(zone + ".kept"))
+            with open(self.at(zone), "w", encoding="ascii") as file:
+                file.write("rubbish\n")
+        try:
+            yield
+        finally:
+            for zone in zones:
+                os.replace(self.at(zone + ".kept"), self.at(zone))
+
+    def zones(self, file, is_skipped):
+        """The zone files of the drawn network that the part with this file of names must skip, or those that it must read."""
+        origins = [labels_of(origin) for origin, _ in self.rows]
+        names = Names(file, set(origins))
+        return [f"{row}.zone" for row, origin in enumerate(origins) if names.is_skipped(origin) == is_skipped]
+
     def part(self, file):
         """Checks a part, and keeps its report beside the file of its names; gives the status and the line on err."""
-        status, out, err = ended(self.said.groot_parts, "part", self.meta, file, *LIMIT)
+        skipped = self.zones(file, True)
+        self.told["skipped rows"] += len(skipped)
+        with self.spoilt(skipped):
+            status, out, err = ended(self.said.groot_parts, "part", self.meta, file, *LIMIT)
         if status < 2:
             with open(file + ".report", "wb") as report:
                 report.write(out)
@@ -146,6 +197,17 @@ class Trial:
             if status > 1:
                 return f"{file}: status {status}: {err.decode().strip()}"
         return None if self.merged(files) == whole else f"{len(files)} parts make another report"
+
+    def refuses(self, file, draw):
+        """Checks a part while one of the zone files that it must read holds rubbish; it is refused for that file."""
+        read = self.zones(file, False)
+        if not read:
+            return None
+        zone = draw.choice(read)
+        with self.spoilt([zone]):
+            status, _, err = ended(self.said.groot_parts, "part", self.meta, file, *LIMIT)
+        self.told["spoilt files"] += 1
+        return None if status == 3 and err.decode().startswith(self.at(zone) + ":1:") else f"{file}: {zone} isn't refused"
 
     def damaged(self, whole, files, draw):
         """Checks the parts with a line of one file taken out or put in."""
@@ -177,9 +239,9 @@ class Trial:
             self.part(file)
         return wrong
 
-    def run(self, meta, draw):
-        """What goes wrong with a network, or nothing."""
-        self.meta = meta
+    def run(self, meta, draw, rows=()):
+        """What goes wrong with a network, or nothing; with its rows, if it was drawn."""
+        self.meta, self.rows = meta, rows
         whole = ended(self.said.groot_large, "check", meta, *LIMIT)[:2]
         if whole[0] > 1:
             self.told["networks past the limit" if whole[0] == 4 else "refused networks"] += 1
@@ -190,7 +252,7 @@ class Trial:
         network = SPLIT.Network(records)
         for parts in self.said.parts:
             files = self.split(records, network, parts)
-            wrong = self.sound(whole, files)
+            wrong = self.sound(whole, files) or self.refuses(draw.choice(files), draw)
             for _ in range(self.said.damaged):
                 wrong = wrong or self.damaged(whole, files, draw)
             if wrong:
@@ -201,7 +263,7 @@ class Trial:
         """What goes wrong with the network of a seed, or nothing."""
         network = Network(seed)
         network.write(self.folder)
-        return self.run(self.at("meta.json"), network.draw)
+        return self.run(self.at("meta.json"), network.draw, network.rows)
 
 
 def main():

@@ -1,9 +1,10 @@
 #!/usr/bin/env python3
 """Works out the values in proofs/Drawn once more, and draws others: draw.py [DEFINITION [--count N] [--seed N]]
 
-Without words it looks through each fact `name : definition arguments ≡ value` of the files in proofs/Drawn, works the value out
-by docs/plain_rules.py, which has the rules of some definitions in plain Python, and names each that differs. It says how many
-facts are of definitions without such rules. The status is 1 if a value differs.
+Without words it looks through each fact `name : definition arguments ≡ value` of the files in proofs/Drawn, and each
+`name : IsX arguments` or `name : ShowsIn arguments`, works it out by rules in plain Python, and names each that differs. The rules
+are those of plain_rules.py, plain_files.py and plain_faults.py. It says how many facts are of definitions without such rules. The
+status is 1 if a value differs.
 
 With a definition, it prints facts of it, with arguments drawn by random numbers from the seed, for a file of proofs/Drawn. The
 prover computes each and refuses one whose value is another.
@@ -16,14 +17,31 @@ import re
 import sys
 from typing import Dict, Iterator, List, Tuple
 
-from plain_rules import RULES, Term, record
+import plain_faults
+import plain_files
+import plain_rules
+from plain_rules import Rule, Term, record
 
 TOP = pathlib.Path(__file__).resolve().parent.parent
+RULES: Dict[str, Rule] = {**plain_rules.RULES, **plain_files.RULES, **plain_faults.RULES}
 SIGN = re.compile(r'\s*(?:("(?:\\.|[^"\\])*")|([()∷{};])|(\[\])|([^\s()∷"{};]+))')
 FACT = re.compile(r"^(?!abbrev\b|use\b|--)(\w+) :\s+(\w+) ((?:.|\n(?=    ))*?)\s+≡ ((?:.|\n(?=    ))*)$", re.M)
+STATEMENT = re.compile(r"^(\w+) :\s+(Is\w+|ShowsIn) ((?:.|\n(?=    ))*)$", re.M)
 NAMED = re.compile(r"^abbrev (\w+) : \w+\n\1 =\n?((?:.+\n)+)", re.M)
 # What a definition's facts unfold, if it isn't unfolded by itself.
-UNFOLDED = {"type_word": "type_word type_numbered is_some_word", "class_word": "class_word is_some_word"}
+OF_RECORDS = "record_of owner_of front_in one_more type_said data_behind made_of type_word type_numbered class_word is_some_word"
+UNFOLDED = {
+    "type_word": "type_word type_numbered is_some_word",
+    "class_word": "class_word is_some_word",
+    "directive_of": "directive_of origin_directive ttl_directive include_directive is_utf8 chars lib.Utf8.encode",
+    "record_of": OF_RECORDS,
+    "alone": f"zone_text with_rest with_entries with_entry effect_of {OF_RECORDS} directive_of origin_directive ttl_directive",
+}
+# What takes a text as it stands, and not its octets.
+OF_TEXTS = ("token", "in_quotes", "includes_file")
+# Octets that a text may have besides those from 32 to 126, as they are written there, and how any octet is written.
+WRITTEN = {9: "\\t", 10: "\\n", 34: '\\"', 92: "\\\\"}
+READ = {"t": "\t", "n": "\n"}
 
 
 class Reader:
@@ -77,7 +95,7 @@ class Reader:
         if sign == "[]":
             return ()
         if sign.startswith('"'):
-            return tuple(map(ord, re.sub(r"\\(.)", r"\1", sign[1:-1])))
+            return tuple(map(ord, re.sub(r"\\(.)", lambda it: READ.get(it[1], it[1]), sign[1:-1])))
         if sign.isdigit():
             return int(sign)
         return self.named.get(sign, {"true": True, "false": False}.get(sign, (sign,)))
@@ -109,13 +127,18 @@ def written(term: Term, is_argument: bool = True) -> str:
     if term == ():
         return "[]"
     if isinstance(term[0], str):
-        text = " ".join([term[0], *map(written, term[1:])])
+        first = [quoted(term[1])] if term[0] in OF_TEXTS else []
+        text = " ".join([term[0], *first, *map(written, term[1 + len(first):])])
         return f"({text})" if is_argument and len(term) > 1 else text
-    if all(isinstance(one, int) and 32 <= one < 127 for one in term) and not is_address(term):
-        text = "".join(map(chr, term)).replace("\\", "\\\\").replace('"', '\\"')
-        return f'(codes "{text}")' if is_argument else f'codes "{text}"'
+    if all(isinstance(one, int) and (32 <= one < 127 or one in WRITTEN) for one in term) and not is_address(term):
+        return f"(codes {quoted(term)})" if is_argument else f"codes {quoted(term)}"
     text = " ∷ ".join([*(written(one, False) for one in term), "[]"])
     return f"({text})" if is_argument else text
+
+
+def quoted(octets: Term) -> str:
+    """Octets as a text in quotes."""
+    return '"' + "".join(WRITTEN.get(octet, chr(octet)) for octet in octets) + '"'
 
 
 def is_address(term: Term) -> bool:
@@ -136,6 +159,13 @@ def facts(path: pathlib.Path) -> Iterator[Tuple[str, str, List[Term], Term]]:
             yield name, definition, Reader(arguments, named).arguments(), Reader(value, named).list_or_term()
         else:
             yield name, definition, [], ()
+    for name, definition, arguments in STATEMENT.findall(text):
+        yield name, definition, Reader(arguments, named).arguments() if definition in RULES else [], True
+
+
+def worked_out(term: Term) -> Term:
+    """What a term comes to that is a definition with its arguments, or the term."""
+    return RULES[term[0]].value(*term[1:]) if isinstance(term, tuple) and term and term[0] in RULES else term
 
 
 def check() -> int:
@@ -149,8 +179,8 @@ def check() -> int:
                 passed[definition] += 1
                 continue
             compared[definition] += 1
-            own = RULES[definition].value(*arguments)
-            if own != value:
+            own = RULES[definition].value(*map(worked_out, arguments))
+            if own != worked_out(value):
                 wrong += 1
                 print(f"{path.relative_to(TOP)}: {name}: {written(value, False)}, and by the plain rules {written(own, False)}")
     print(f"drawn: {sum(compared.values())} values of {len(compared)} definitions, {wrong} wrong; {sum(passed.values())} more of {len(passed)} without plain rules")

@@ -334,9 +334,13 @@ class Network:
         return tuple(("Go", ("Rewrite", place, by_dname, to), self.arrived(server, to, state["carried"] and by_dname, state["used"] + 1, ("Some", place)))
                      for server in servers)
 
+    def starts(self, query: Term) -> Tuple[Term, ...]:
+        """The states in which a query begins, as branches without a hop."""
+        return tuple(("Go", None, self.arrived(top, query, True, 0, NONE)) for top in self.tops)
+
     def walk(self, query: Term, rtype: Term, numbers: Tuple[int, ...]) -> Term:
         """The walk that takes the branches with these numbers, first a start state, or none."""
-        branches: Tuple[Term, ...] = tuple(("Go", None, self.arrived(top, query, True, 0, NONE)) for top in self.tops)
+        branches = self.starts(query)
         states: List[Term] = []
         hops: List[Term] = []
         for place, number_taken in enumerate(numbers):
