@@ -3,7 +3,7 @@ walk looks once the last labels of its query are replaced. docs/draw.py compares
 """
 import functools
 import itertools
-from typing import Dict, Iterator, List, NamedTuple, Optional, Set, Tuple
+from typing import Callable, Dict, Iterator, List, NamedTuple, Optional, Set, Tuple
 
 from plain_rules import NONE, Network, Octets, Rule, Term, data_of, fields_of, octets_of, record, some
 
@@ -132,12 +132,12 @@ def of_referral(network: Network, place: Term, only_greatest: Set[Labels]) -> It
         yield "Cyclic"
 
 
-def of_end(walk: Walk, greatest: Tuple[Labels, ...], stands: bool) -> Iterator[Term]:
-    """The faults that a walk shows by its end; `overlong` counts if the query stands for its class."""
+def of_end(walk: Walk, greatest: Tuple[Labels, ...], stands: Callable[[], bool]) -> Iterator[Term]:
+    """The faults that a walk shows by its end; `overlong` counts if the query stands for its class, which is asked for then alone."""
     kind, last = walk.leaf[0].split(".")[1], walk.states[-1]["last"]
     if kind == "Lame" or kind == "NoAddress" and walk.leaf[1] not in greatest:
         yield (f"faults.{kind}", walk.hops[-1][1])
-    if kind == "Limit" or kind == "Overlong" and stands:
+    if kind == "Limit" or kind == "Overlong" and stands():
         yield (f"faults.{kind}", walk.leaf[1])
     if kind == "NxDomain" and last != NONE:
         yield ("faults.Blackhole", last[1])
@@ -146,16 +146,18 @@ def of_end(walk: Walk, greatest: Tuple[Labels, ...], stands: bool) -> Iterator[T
 def faults_of(config: Term, rewrites: int, query: Labels, rtype: Term) -> Set[Term]:
     """The faults that a query shows with a type."""
     ground = Ground(config)
-    own_class = ground.class_of(query)
-    stands = ground.representative(own_class) == query
     least, greatest = learnt(config, rewrites, ()), learnt(config, rewrites, tuple(server[1] for server in config[2]))
     network = following(config, rewrites, least)
     all_walks = walks(network, query, rtype)
+
+    def stands() -> bool:
+        return bool(ground.representative(ground.class_of(query)) == query)
+
     shown = {fault for walk in all_walks for fault in of_end(walk, greatest, stands)}
     for place in {hop[1] for walk in all_walks for hop in walk.hops if hop[0] == "Refer"}:
         shown.update((f"faults.{kind}", place) for kind in of_referral(network, place, set(greatest) - set(least)))
     if len({walk.leaf for walk in all_walks if walk.leaf[0] in FOUND}) > 1:
-        shown.add(("faults.Answers", own_class, rtype))
+        shown.add(("faults.Answers", ground.class_of(query), rtype))
     return shown
 
 
